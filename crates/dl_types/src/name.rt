@@ -6,14 +6,15 @@ ghost use Rattle.dl_types.specs.NameFaults.{IsNameFault};
 
 use crate::memory::NoMemory;
 use crate::name_fault::NameFault;
+use bytes::Bytes;
 use std::alloc::{AllocError, Global};
 use std::marker::Model;
 
-/// The name of a stream: 1 to 64 bytes of `a` to `z`, `0` to `9`, `_` and `-`, the first a letter. Contracts see it as
-/// the list of its bytes.
+/// The name of a stream: 1 to 64 bytes of `a` to `z`, `0` to `9`, `_` and `-`, the first a letter. Copies share the
+/// bytes. Contracts see a name as the list of its bytes.
 #[derive(Clone, Debug, Drop)]
 pub struct Name {
-    bytes: Vec<u8>,
+    bytes: Bytes,
 }
 
 impl Model for Name {
@@ -22,9 +23,9 @@ impl Model for Name {
 
     ghost Value = { List ℕ };
 
-    ghost view = { λ n. n.bytes.items };
+    ghost view = { λ n. n.bytes };
 
-    ghost invariant = { λ n. name_fault n.bytes.items ≡ None };
+    ghost invariant = { λ n. name_fault n.bytes ≡ None };
 }
 
 impl PartialEq for Name {
@@ -87,18 +88,18 @@ impl Name {
         if let Some(at) = fault_of(bytes) {
             return Err(NameFault::BadName { at });
         }
-        match Vec::from_slice(alloc, bytes) {
+        match Bytes::copy_from_slice(alloc, bytes) {
             Ok(bytes) => Ok(Name { bytes }),
             Err(_) => Err(NameFault::NoMemory),
         }
     }
 
-    /// The same name again.
-    pub fn copied(&self) -> Result<Name, NoMemory>
+    /// Another owner of the same name.
+    pub fn share(&self) -> Result<Name, NoMemory>
         ensures { IfOk result (λ n. n ≡ self.now) }
     {
-        let copied = self.clone()?;
-        Ok(copied)
+        let shared = self.clone()?;
+        Ok(shared)
     }
 
     /// The bytes of the name.
@@ -106,6 +107,6 @@ impl Name {
         ensures value { result.now ≡ self.now }
         ensures good { name_fault result.now ≡ None }
     {
-        &self.bytes
+        self.bytes.as_slice()
     }
 }
