@@ -1,0 +1,21 @@
+-- Where a text stops to be one of the grammar.
+use Rattle.std.specs.Prelude.{◌≡◌, ℕ, ◌+◌, ◌<◌, List, [], ◌∷◌, ◌++◌, length}
+use Rattle.dl_text.specs.Readers.{shared}
+
+-- up to the column, counted from 1, some valid text goes on as the bytes do, and none goes on further
+pub record IsColumn {A : Type 0} (Valid : A → Type 0) (print : A → List ℕ) (bytes : List ℕ) (column : ℕ) : Type 0 where
+  pub goes_on : (a : A) × Valid a × (shared bytes (print a) + 1 ≡ column)
+  pub no_further : (a : A) → Valid a → shared bytes (print a) < column
+
+-- some valid text begins with these bytes
+abbrev pub Begins : {A : Type 0} → (A → Type 0) → (A → List ℕ) → List ℕ → Type 0
+Begins {A} Valid print front = (a : A) × Valid a × (more : List ℕ) × (print a ≡ front ++ more)
+
+-- The column, from 1, is the place of the first byte at which no valid text goes on, or one past the last byte.
+pub record StopsAt {A : Type 0} (Valid : A → Type 0) (print : A → List ℕ) (bytes : List ℕ) (column : ℕ) : Type 0 where
+  pub front : List ℕ
+  pub rest : List ℕ
+  pub parts : bytes ≡ front ++ rest
+  pub place : length front + 1 ≡ column
+  pub goes_on : Begins Valid print front
+  pub stops : (b : ℕ) (more : List ℕ) → rest ≡ b ∷ more → Begins Valid print (front ++ b ∷ []) → ⊥

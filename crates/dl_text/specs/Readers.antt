@@ -1,0 +1,52 @@
+-- Readers of fields: a reader takes one field off the front of a text, or says how many bytes are left at the first
+-- byte at which no such field goes on.
+use Rattle.std.specs.Prelude.{◌≡◌, ℕ, ◌+◌, ◌≤◌, List, [], ◌∷◌, ◌++◌, length, Result, Ok, Err, ◌==◌, if◌then◌else◌}
+use Rattle.dl_text.specs.declared.stop.Stop.{Stop}
+use Rattle.dl_text.specs.declared.stop.Stop.TheVariants.{NoMemory, Left}
+
+-- how many first bytes two texts share
+abbrev pub shared : List ℕ → List ℕ → ℕ
+shared [] ys = 0
+shared (x ∷ xs) [] = 0
+shared (x ∷ xs) (y ∷ ys) = if x == y then 1 + shared xs ys else 0
+
+-- one reading and then another; the first that stops says where
+infixl 10 ◌>>=◌
+abbrev pub ◌>>=◌ : {A B : Type 0} → Result A ℕ → (A → Result B ℕ) → Result B ℕ
+(Ok x) >>= f = f x
+(Err left) >>= f = Err left
+
+-- a field and then another, which may depend on it
+abbrev pub then_at : {A B : Type 0} → (List ℕ → Result (A × List ℕ) ℕ) → (A → List ℕ → Result (B × List ℕ) ℕ) → List ℕ → Result ((A × B) × List ℕ) ℕ
+then_at first second bytes = first bytes >>= λ x. second x.0 x.1 >>= λ y. Ok ((x.0, y.0), y.1)
+
+-- a field as another value
+abbrev pub map_at : {A B : Type 0} → (A → B) → (List ℕ → Result (A × List ℕ) ℕ) → List ℕ → Result (B × List ℕ) ℕ
+map_at make read bytes = read bytes >>= λ x. Ok (make x.0, x.1)
+
+-- a field behind which nothing is left
+abbrev pub ended : {A : Type 0} → A × List ℕ → Result A ℕ
+ended x = if length x.1 == 0 then Ok x.0 else Err (length x.1)
+
+-- a field that is the whole text
+abbrev pub whole_at : {A : Type 0} → (List ℕ → Result (A × List ℕ) ℕ) → List ℕ → Result A ℕ
+whole_at read bytes = read bytes >>= ended
+
+-- a fault is where the reading stops; want of memory says nothing of it
+abbrev pub Fails : {Y : Type 0} → Stop → Result Y ℕ → Type 0
+Fails NoMemory read = Unit {0}
+Fails (Left left) read = read ≡ Err left
+
+-- what a function returned, seen by view, is what the reading gives, unless memory ran out
+abbrev pub Gives : {X Y : Type 0} → (X → Y) → Result X Stop → Result Y ℕ → Type 0
+Gives view (Ok x) read = read ≡ Ok (view x)
+Gives view (Err stop) read = Fails stop read
+
+-- A reader is exact for the values that are valid and their spelling: what it reads is valid and spelt so; what is
+-- valid and spelt so is read, whatever follows; and where it stops, the spelling of some valid value shares all bytes
+-- before that place with the text, and none shares more.
+pub record Exact {A : Type 0} (Valid : A → Type 0) (print : A → List ℕ) (read : List ℕ → Result (A × List ℕ) ℕ) : Type 0 where
+  pub found : (bytes : List ℕ) (a : A) (rest : List ℕ) → read bytes ≡ Ok (a, rest) → Valid a × (bytes ≡ print a ++ rest)
+  pub again : (a : A) (rest : List ℕ) → Valid a → read (print a ++ rest) ≡ Ok (a, rest)
+  pub near : (bytes : List ℕ) (left : ℕ) → read bytes ≡ Err left → (a : A) × Valid a × (shared bytes (print a) + left ≡ length bytes)
+  pub far : (bytes : List ℕ) (left : ℕ) → read bytes ≡ Err left → (a : A) → Valid a → shared bytes (print a) + left ≤ length bytes

@@ -1,0 +1,15 @@
+//! What holds of the readers of this crate, for each text: laws on their definitions, with no code.
+
+ghost use Rattle.dl_text.specs.Laws.{NumbersAreExact, HexIsExact};
+
+/// Each number is spelt in one way and read as it is spelt, and a text that begins with no number stops where none goes
+/// on.
+pub fn numbers_are_exact()
+    ensures { NumbersAreExact }
+{}
+
+/// Bytes are spelt in hex in one way and read as they are spelt, and a text that begins with none stops where none goes
+/// on.
+pub fn hex_is_exact()
+    ensures { HexIsExact }
+{}
