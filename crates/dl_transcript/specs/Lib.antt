@@ -1,0 +1,4 @@
+pub mod Verbs
+pub mod Lines
+pub mod Legal
+pub mod Laws
