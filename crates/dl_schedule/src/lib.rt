@@ -6,3 +6,6 @@ pub mod early;
 pub mod fault;
 pub mod step;
 mod verb;
+
+#[cfg(test)]
+mod tests;
