@@ -3,7 +3,7 @@ use Rattle.std.proofs.Common.{◌≡◌, ℕ, suc, ◌+◌, ◌-◌, ◌≤◌, 
 use Rattle.std.proofs.lemmas.Bool.{eqb-true, eqb-false, cases_lt, cases_eq, ne_eqb}
 use Rattle.std.proofs.lemmas.List.{append-nil, nil_from_length}
 use Rattle.dl_text.specs.Readers.{shared, ◌>>=◌, Exact, ended, whole_at}
-use Rattle.dl_text.specs.Columns.{IsColumn, Begins, StopsAt}
+use Rattle.dl_text.specs.Columns.{IsColumn, Begins, StopsAt, column_of, ReadsWhole}
 use Rattle.dl_text.proofs.ReaderLemmas.{shared_le, shared-append, shared-cons, shared-differ, begins, whole_or_short, one_way, ok_is, bind_ok, bind_err}
 
 ended_ok_go : {A : Type 0} (x : A × List ℕ) (a : A) (t : Bool) → eqb (length x.1) 0 ≡ t → cond t (Ok x.0) (Err (length x.1)) ≡ Ok a → (x.0 ≡ a) × (x.1 ≡ [])
@@ -100,3 +100,17 @@ stops_from_column {A} {V} {p} bytes column h =
           let long : shared bytes (p g.0) ≡ length (w.0 ++ b ∷ []) + shared more g.2 = ap (λ (t : List ℕ). shared t (p g.0)) whole ∙ ap (shared ((w.0 ++ b ∷ []) ++ more)) g.3 ∙ shared-append (w.0 ++ b ∷ []) more g.2 in
           omega (arith, h.no_further g.0 g.1, long, length-append w.0 (b ∷ []), w.5, h.goes_on.2);
     }
+
+-- where a whole text stops, in terms of beginnings
+pub whole_stops : {A : Type 0} {V : A → Type 0} {p : A → List ℕ} {r : List ℕ → Result (A × List ℕ) ℕ} → Exact V p r → (bytes : List ℕ) (left : ℕ) → whole_at r bytes ≡ Err left → StopsAt V p bytes (length bytes - left + 1)
+whole_stops {A} {V} {p} {r} exact bytes left e =
+    let small = whole_left exact bytes left e in
+    stops_from_column bytes (length bytes - left + 1) (whole_column exact bytes left (length bytes - left + 1) e (omega arith))
+
+whole_reads_go : {A : Type 0} {V : A → Type 0} {p : A → List ℕ} {r : List ℕ → Result (A × List ℕ) ℕ} → Exact V p r → (bytes : List ℕ) (read : Result A ℕ) → whole_at r bytes ≡ read → ReadsWhole V p bytes (column_of bytes read)
+whole_reads_go exact bytes (Ok a) e = whole_found exact bytes a e
+whole_reads_go exact bytes (Err left) e = whole_stops exact bytes left e
+
+-- a whole text is read as it is spelt, or stops at the column
+pub whole_reads : {A : Type 0} {V : A → Type 0} {p : A → List ℕ} {r : List ℕ → Result (A × List ℕ) ℕ} → Exact V p r → (bytes : List ℕ) → ReadsWhole V p bytes (column_of bytes (whole_at r bytes))
+whole_reads {A} {V} {p} {r} exact bytes = whole_reads_go exact bytes (whole_at r bytes) refl

@@ -1,7 +1,7 @@
 -- One of several words is read exactly.
-use Rattle.std.proofs.Common.{◌≡◌, ℕ, ◌+◌, ◌-◌, ◌≤◌, ◌<◌, max, Bool, true, false, cond, eqb, List, [], ◌∷◌, ◌++◌, length, get_or, drop, Option, Some, None, Result, Ok, Err, ◌⊎◌, inl, inr, refl, sym, ap, subst, ◌∙◌, arith}
-use Rattle.std.specs.List.{AllByRecursion, list_all}
-use Rattle.std.proofs.lemmas.Bool.{eqb-true, cases_lt, leb-true, le-leb}
+use Rattle.std.proofs.Common.{◌≡◌, ℕ, zero, suc, ◌+◌, ◌-◌, ◌≤◌, ◌<◌, max, Bool, true, false, cond, eqb, List, [], ◌∷◌, ◌++◌, length, get_or, drop, Option, Some, None, Result, Ok, Err, ◌⊎◌, inl, inr, refl, sym, ap, subst, ◌∙◌, arith}
+use Rattle.std.specs.List.{AllByRecursion, Contains}
+use Rattle.std.proofs.lemmas.Bool.{eqb-true, eq-eqb, cases_lt, leb-true, le-leb}
 use Rattle.std.specs.Ordering.{ord_max, nat_cmp}
 use Rattle.std.proofs.lemmas.Bool.Decides.{nat_tests}
 use Rattle.std.proofs.lemmas.List.{drop_more}
@@ -94,3 +94,33 @@ words_step {K} text best next i words word bytes spelled all is spells missing r
       ap (λ (k : ℕ). words_from text k (drop (i + 1) words) bytes) top ∙ sym (words_miss text best word (drop (i + 1) words) bytes gone) ∙ ap (λ (ks : List K). words_from text best ks bytes) (sym parts) ∙ same,
       omega (arith, top, shared_le bytes (text word), fits),
     )
+
+after_front : (word rest : List ℕ) → after word (word ++ rest) ≡ Some rest
+after_front [] rest = refl
+after_front (w ∷ ws) rest = rw (eq-eqb w w refl) (after_front ws rest)
+
+-- The one word of a list of one is read exactly.
+pub one_word_exact : {K : Type 0} (text : K → List ℕ) (word : K) → Exact (λ k. k ≡ word) text (words_from text 0 (word ∷ []))
+one_word_exact {K} text word = words_exact (λ k. k ≡ word) text word [] (refl, tt) again every
+  where
+    here : (rest : List ℕ) → words_from text 0 (word ∷ []) (text word ++ rest) ≡ Ok (word, rest)
+    here rest = rw (after_front (text word) rest) refl
+
+    again : (k : K) (rest : List ℕ) → k ≡ word → words_from text 0 (word ∷ []) (text k ++ rest) ≡ Ok (k, rest)
+    again k rest is = subst (λ (j : K). words_from text 0 (word ∷ []) (text j ++ rest) ≡ Ok (j, rest)) (sym is) (here rest)
+
+    every : (P : K → Type 0) → AllByRecursion P (word ∷ []) → (k : K) → k ≡ word → P k
+    every P all k is = subst P (sym is) all.0
+
+every_word : {K : Type 0} (P : K → Type 0) (words : List K) → AllByRecursion P words → (k : K) → Contains words k → P k
+every_word P [] all k c = absurd (omega (arith, c.1))
+every_word {K} P (word ∷ words) all k (zero, within, is) = subst P is all.0
+every_word {K} P (word ∷ words) all k (suc i, within, is) = every_word P words all.1 k (i, omega (arith, within), is)
+
+listed : {K : Type 0} (P : K → Type 0) (words : List K) → ((k : K) → Contains words k → P k) → AllByRecursion P words
+listed P [] each = tt
+listed P (word ∷ words) each = (each word (0, omega arith, refl), listed P words (λ k c. each k (suc c.0, omega (arith, c.1), c.2)))
+
+-- Words are read exactly where each of them is read as itself.
+pub listed_exact : {K : Type 0} (text : K → List ℕ) (first : K) (words : List K) → ((k : K) (rest : List ℕ) → Contains (first ∷ words) k → words_from text 0 (first ∷ words) (text k ++ rest) ≡ Ok (k, rest)) → Exact (Contains (first ∷ words)) text (words_from text 0 (first ∷ words))
+listed_exact text first words again = words_exact (Contains (first ∷ words)) text first words (listed (Contains (first ∷ words)) (first ∷ words) (λ k c. c)) again (λ P all. every_word P (first ∷ words) all)

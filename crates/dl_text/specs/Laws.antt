@@ -1,9 +1,11 @@
 -- The laws of the readers of this crate.
-use Rattle.std.specs.Prelude.{◌≡◌, ℕ, ◌+◌, ◌-◌, ◌<◌, List, length, Err}
+use Rattle.std.specs.Prelude.{◌≡◌, ℕ, ◌<◌, List, ◌∷◌, ◌++◌, Result, Ok}
+use Rattle.std.specs.List.{Contains}
 use Rattle.dl_text.specs.Readers.{Exact, whole_at}
 use Rattle.dl_text.specs.Numbers.{number, number_at, IsWithin, IsRange}
 use Rattle.dl_text.specs.Hex.{hex, hex_at, AllBytes}
-use Rattle.dl_text.specs.Columns.{StopsAt}
+use Rattle.dl_text.specs.Words.{words_from}
+use Rattle.dl_text.specs.Columns.{column_of, ReadsWhole}
 
 -- each number field is read exactly
 abbrev pub NumbersAreExact : Type 0
@@ -12,3 +14,14 @@ NumbersAreExact = (low high end : ℕ) → IsRange low high end → Exact (IsWit
 -- bytes in hex are read exactly, whatever byte below `-` ends them
 abbrev pub HexIsExact : Type 0
 HexIsExact = (end : ℕ) → end < 45 → Exact AllBytes (hex end) (hex_at end)
+
+-- words are read exactly, where each word of the list is read as itself, so that none hides another
+abbrev pub WordsAreExact : {K : Type 0} → (K → List ℕ) → Type 0
+WordsAreExact {K} text =
+    (first : K) (words : List K)
+    → ((word : K) (rest : List ℕ) → Contains (first ∷ words) word → words_from text 0 (first ∷ words) (text word ++ rest) ≡ Ok (word, rest))
+    → Exact (Contains (first ∷ words)) text (words_from text 0 (first ∷ words))
+
+-- a text that is to be one number field is read as it is spelt, or stops at the column at which no such number goes on
+abbrev pub WholeNumbersAreRead : Type 0
+WholeNumbersAreRead = (low high end : ℕ) → IsRange low high end → (bytes : List ℕ) → ReadsWhole (IsWithin low high) (number end) bytes (column_of bytes (whole_at (number_at low high end) bytes))

@@ -1,6 +1,8 @@
 //! What holds of the readers of this crate, for each text: laws on their definitions, with no code.
 
-ghost use Rattle.dl_text.specs.Laws.{NumbersAreExact, HexIsExact};
+ghost use Rattle.dl_text.specs.Laws.{NumbersAreExact, HexIsExact, WordsAreExact, WholeNumbersAreRead};
+
+use crate::word::Word;
 
 /// Each number is spelt in one way and read as it is spelt, and a text that begins with no number stops where none goes
 /// on.
@@ -12,4 +14,15 @@ pub fn numbers_are_exact()
 /// on.
 pub fn hex_is_exact()
     ensures { HexIsExact }
+{}
+
+/// Each word of a closed list is read as it is spelt, and a text that begins with none stops where none goes on,
+/// provided that no word of the list hides another.
+pub fn words_are_exact<W: Word>()
+    ensures { WordsAreExact W.text }
+{}
+
+/// A text that is to be one number is read as it is spelt, or stops at the exact column.
+pub fn whole_numbers_are_read()
+    ensures { WholeNumbersAreRead }
 {}

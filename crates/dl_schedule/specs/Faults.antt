@@ -1,0 +1,29 @@
+-- What the reader of a line answers, and why it refuses one.
+use Rattle.std.specs.Prelude.{◌≡◌, ℕ, List, Result, Ok, Err}
+use Rattle.dl_text.specs.Columns.{StopsAt, column_of}
+use Rattle.dl_schedule.specs.declared.step.Step.{Step}
+use Rattle.dl_schedule.specs.declared.fault.LineFault.{LineFault}
+use Rattle.dl_schedule.specs.declared.fault.LineFault.TheVariants.{NoMemory, BadLine}
+use Rattle.dl_schedule.specs.Lines.{print_step, IsEarly}
+use Rattle.dl_schedule.specs.Reading.{early_at}
+
+-- the column is the place where the line of this number stops to be one; want of memory says nothing of the line
+abbrev pub IsBadAt : ℕ → List ℕ → LineFault → Type 0
+IsBadAt n line NoMemory = Unit {0}
+IsBadAt n line (BadLine column) = StopsAt (IsEarly n) print_step line column
+
+-- the answer is this step, unless memory ran out
+abbrev pub ReadsAs : Step → Result Step LineFault → Type 0
+ReadsAs s (Ok t) = t ≡ s
+ReadsAs s (Err NoMemory) = Unit {0}
+ReadsAs s (Err (BadLine column)) = ⊥
+
+-- the step that the line of this number says, or the column where it stops
+abbrev pub parsed_early : ℕ → List ℕ → Result Step ℕ
+parsed_early n line = column_of line (early_at n line)
+
+-- the answer is the step or the column of this reading, unless memory ran out
+abbrev pub Parses : Result Step LineFault → Result Step ℕ → Type 0
+Parses (Ok s) read = read ≡ Ok s
+Parses (Err NoMemory) read = Unit {0}
+Parses (Err (BadLine column)) read = read ≡ Err column

@@ -1,0 +1,11 @@
+//! The lines of a schedule: one step a line, and one spelling a step.
+#![tactic(auto)]
+
+pub mod bookie_count;
+pub mod early;
+pub mod fault;
+pub mod step;
+mod verb;
+
+#[cfg(test)]
+mod tests;
