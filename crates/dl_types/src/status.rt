@@ -9,6 +9,20 @@ pub enum LimitName {
     Schedule,
 }
 
+impl LimitName {
+    ghost use Rattle.dl_types.specs.Statuses.{limit_text};
+
+    /// The limit's name as notes print it.
+    pub fn text(self) -> &'static [u8]
+        ensures { result.now ≡ limit_text self }
+    {
+        match self {
+            LimitName::Lines => b"lines",
+            LimitName::Schedule => b"schedule",
+        }
+    }
+}
+
 /// How the program ends.
 #[derive(Clone, Copy, Debug, PartialEq, Eq)]
 pub enum Status {
