@@ -1,8 +1,8 @@
 -- Each form of line is read exactly.
-use Rattle.std.proofs.Common.{◌≡◌, ℕ, List, [], ◌∷◌, ◌++◌, Option, Some, None, Result, Ok, Err, refl, sym, ap, subst, ◌∙◌, ◌≤◌, ◌<◌, arith, lit<, lit≤}
+use Rattle.std.proofs.Common.{◌≡◌, ℕ, List, [], ◌∷◌, ◌++◌, Option, Some, None, Ok, Err, refl, sym, ap, subst, ◌∙◌, ◌<◌, arith, lit<, lit≤}
 use Rattle.std.specs.List.{AllByRecursion}
 use Rattle.dl_text.specs.Readers.{Exact}
-use Rattle.dl_text.specs.Numbers.{number, number_at, IsWithin, IsNoDigit, IsRange}
+use Rattle.dl_text.specs.Numbers.{number, number_at, IsWithin, IsNoDigit}
 use Rattle.dl_text.specs.Hex.{AllBytes}
 use Rattle.dl_text.specs.Words.{words_from}
 use Rattle.dl_text.proofs.ReaderLemmas.{then_exact, made_exact, ok_is}
@@ -10,7 +10,7 @@ use Rattle.dl_text.proofs.NumberLemmas.{number_exact}
 use Rattle.dl_text.proofs.HexLemmas.{hex_exact}
 use Rattle.dl_text.proofs.WordLemmas.{words_exact, one_word_exact}
 use Rattle.dl_schedule.specs.declared.step.Step.{Step}
-use Rattle.dl_schedule.specs.declared.step.Step.TheVariants.{Setup, Join, Create, Open, Append, Flush, Settle}
+use Rattle.dl_schedule.specs.declared.step.Step.TheVariants.{Append, Flush, Settle}
 use Rattle.dl_schedule.specs.declared.verb.Verb.{Verb}
 use Rattle.dl_schedule.specs.declared.verb.Verb.TheVariants as verb
 use Rattle.dl_schedule.specs.declared.verb.Opening.{Opening}

@@ -1,5 +1,5 @@
 -- The opening lines, byte for byte.
-use Rattle.std.proofs.Common.{◌≡◌, ℕ, List, [], ◌∷◌, ◌++◌, refl, ap, lit<}
+use Rattle.std.proofs.Common.{◌≡◌, [], ◌∷◌, refl, lit<}
 use Rattle.std.specs.Fmt.{decimal}
 use Rattle.std.proofs.lemmas.Fmt.{decimal_digit}
 use Rattle.dl_schedule.specs.declared.verb.Opening.TheVariants as opening

@@ -5,7 +5,6 @@ pub mod bookie_count;
 pub mod early;
 pub mod fault;
 pub mod step;
-mod verb;
-
 #[cfg(test)]
 mod tests;
+mod verb;

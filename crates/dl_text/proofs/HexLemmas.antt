@@ -1,13 +1,13 @@
 -- Hex digits are read exactly.
-use Rattle.std.proofs.Common.{◌≡◌, ◌≢◌, ℕ, suc, zero, ◌+◌, ◌-◌, ◌*◌, ◌/◌, ◌%◌, ◌≤◌, ◌<◌, Bool, true, false, cond, eqb, leb, not, ◌&&◌, ◌||◌, List, [], ◌∷◌, ◌++◌, length, get_or, drop, Result, Ok, Err, ◌⊎◌, inl, inr, refl, sym, ap, subst, ◌∙◌, append_assoc, arith, length-append, lit<}
+use Rattle.std.proofs.Common.{◌≡◌, ℕ, ◌+◌, ◌*◌, ◌/◌, ◌%◌, ◌≤◌, ◌<◌, Bool, true, false, cond, eqb, List, [], ◌∷◌, ◌++◌, length, get_or, drop, Result, Ok, Err, ◌⊎◌, inl, inr, refl, sym, ap, subst, ◌∙◌, append_assoc, arith, lit<}
 use Rattle.std.proofs.lemmas.Bool.Decides.{nat_tests}
-use Rattle.std.proofs.lemmas.Bool.{eqb-true, eqb-false, eq-eqb, ne_eqb}
+use Rattle.std.proofs.lemmas.Bool.{eqb-true, eq-eqb, ne_eqb}
 use Rattle.std.specs.List.{between}
 use Rattle.std.proofs.lemmas.List.{drop_more}
 use Rattle.std.proofs.lemmas.Slice.{first_rest}
 use Rattle.dl_text.specs.Readers.{shared, ◌>>=◌, Exact}
 use Rattle.dl_text.specs.Hex.{is_hex, hex_value, hex_char, pairs, hex, AllBytes, pairs_at, end_at, hex_at}
-use Rattle.dl_text.proofs.ReaderLemmas.{ok_is, bind_ok, bind_err, near_behind, shared-append, shared-cons}
+use Rattle.dl_text.proofs.ReaderLemmas.{ok_is, bind_ok, bind_err, shared-cons}
 use Rattle.dl_text.proofs.NumberLemmas.{StopsEarly, far_from_stop}
 
 data HexCase (end c : ℕ) : Type 0 where

@@ -1,10 +1,10 @@
 -- A whole text, and where a text stops to be one.
-use Rattle.std.proofs.Common.{◌≡◌, ℕ, suc, ◌+◌, ◌-◌, ◌≤◌, ◌<◌, Bool, true, false, cond, eqb, List, [], ◌∷◌, ◌++◌, length, Result, Ok, Err, ◌⊎◌, inl, inr, refl, sym, ap, subst, ◌∙◌, append_assoc, arith, length-append}
-use Rattle.std.proofs.lemmas.Bool.{eqb-true, eqb-false, cases_lt, cases_eq, ne_eqb}
+use Rattle.std.proofs.Common.{◌≡◌, ℕ, suc, ◌+◌, ◌-◌, ◌≤◌, Bool, true, false, cond, eqb, List, [], ◌∷◌, ◌++◌, length, Result, Ok, Err, inl, inr, refl, sym, ap, subst, ◌∙◌, append_assoc, arith, length-append}
+use Rattle.std.proofs.lemmas.Bool.{eqb-true, cases_lt, cases_eq, ne_eqb}
 use Rattle.std.proofs.lemmas.List.{append-nil, nil_from_length}
 use Rattle.dl_text.specs.Readers.{shared, ◌>>=◌, Exact, ended, whole_at}
-use Rattle.dl_text.specs.Columns.{IsColumn, Begins, StopsAt, column_of, ReadsWhole}
-use Rattle.dl_text.proofs.ReaderLemmas.{shared_le, shared-append, shared-cons, shared-differ, begins, whole_or_short, one_way, ok_is, bind_ok, bind_err}
+use Rattle.dl_text.specs.Columns.{IsColumn, StopsAt, column_of, ReadsWhole}
+use Rattle.dl_text.proofs.ReaderLemmas.{shared-append, shared-cons, shared-differ, begins, one_way, ok_is, bind_ok, bind_err}
 
 ended_ok_go : {A : Type 0} (x : A × List ℕ) (a : A) (t : Bool) → eqb (length x.1) 0 ≡ t → cond t (Ok x.0) (Err (length x.1)) ≡ Ok a → (x.0 ≡ a) × (x.1 ≡ [])
 ended_ok_go x a true e h = (ok_is {B = ℕ} x.0 a h, nil_from_length x.1 (eqb-true _ _ e))

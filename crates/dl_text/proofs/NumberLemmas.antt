@@ -1,18 +1,18 @@
 -- Numbers are read exactly.
-use Rattle.std.proofs.Common.{◌≡◌, ◌≢◌, ℕ, suc, zero, ◌+◌, ◌-◌, ◌*◌, ◌/◌, ◌%◌, ◌^◌, ◌≤◌, ◌<◌, Bool, true, false, cond, eqb, leb, not, ◌&&◌, List, [], ◌∷◌, ◌++◌, length, get_or, Result, Ok, Err, ◌⊎◌, inl, inr, refl, sym, ap, subst, ◌∙◌, append_assoc, arith, length-append}
+use Rattle.std.proofs.Common.{◌≡◌, ◌≢◌, ℕ, suc, zero, ◌+◌, ◌-◌, ◌*◌, ◌/◌, ◌%◌, ◌^◌, ◌≤◌, ◌<◌, Bool, true, false, eqb, leb, not, ◌&&◌, List, [], ◌∷◌, ◌++◌, length, get_or, Result, Ok, Err, ◌⊎◌, inl, inr, refl, sym, ap, subst, ◌∙◌, append_assoc, arith, length-append}
 use Rattle.std.specs.Fmt.{decimal}
 use Rattle.std.specs.Char.{digit_value}
-use Rattle.std.specs.Str.Parse.{AllDigits, digits_value, digits_value_after, IsNumeral}
+use Rattle.std.specs.Str.Parse.{AllDigits, digits_value, digits_value_after}
 use Rattle.std.proofs.lemmas.Str.Parse.{digit_from_value}
 use Rattle.std.proofs.lemmas.Fmt.{decimal_digit, decimal_step, first_decimal, decimal_is_IsNumeral}
 use Rattle.std.proofs.lemmas.Bool.Decides.{nat_tests}
-use Rattle.std.proofs.lemmas.Bool.{eqb-true, eqb-false, eq-eqb, leb-true, leb-false, le-leb, cases_eq, cases_lt, and_parts}
+use Rattle.std.proofs.lemmas.Bool.{eqb-true, eqb-false, eq-eqb, leb-true, cases_lt, and_parts}
 use Rattle.std.proofs.lemmas.List.{append-nil}
 use Rattle.std.specs.Prelude.{IfOk}
 use Rattle.dl_text.specs.declared.stop.Stop.{Stop}
-use Rattle.dl_text.specs.Readers.{Gives, shared, ◌>>=◌, Exact}
+use Rattle.dl_text.specs.Readers.{Gives, shared, Exact}
 use Rattle.dl_text.specs.Numbers.{digits_at, number_at, number, IsWithin, IsNoDigit, IsRange}
-use Rattle.dl_text.proofs.ReaderLemmas.{shared_le, begins, ok_is, whole_or_short, near_behind}
+use Rattle.dl_text.proofs.ReaderLemmas.{shared_le, begins, ok_is, near_behind}
 
 -- A stop is decided by the bytes up to it, that one included.
 pub record StopsEarly {A : Type 0} (read : List ℕ → Result (A × List ℕ) ℕ) (bytes : List ℕ) (left : ℕ) : Type 0 where

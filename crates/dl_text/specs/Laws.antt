@@ -1,5 +1,5 @@
 -- The laws of the readers of this crate.
-use Rattle.std.specs.Prelude.{◌≡◌, ℕ, ◌<◌, List, ◌∷◌, ◌++◌, Result, Ok}
+use Rattle.std.specs.Prelude.{◌≡◌, ℕ, ◌<◌, List, ◌∷◌, ◌++◌, Ok}
 use Rattle.std.specs.List.{Contains}
 use Rattle.dl_text.specs.Readers.{Exact, whole_at}
 use Rattle.dl_text.specs.Numbers.{number, number_at, IsWithin, IsRange}

@@ -5,4 +5,6 @@ pub mod hex;
 pub mod laws;
 pub mod number;
 pub mod stop;
+#[cfg(test)]
+mod tests;
 pub mod word;

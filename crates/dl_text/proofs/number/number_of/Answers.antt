@@ -1,4 +1,4 @@
-use Rattle.std.proofs.Common.{arith, ◌≤◌}
+use Rattle.std.proofs.Common.{arith}
 use Rattle.dl_text.proofs.NumberLemmas.{digits_within}
 use Rattle.dl_text.proofs.number.number_of.Goals as goal
 
