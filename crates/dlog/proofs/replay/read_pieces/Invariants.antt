@@ -1,0 +1,18 @@
+use Rattle.std.proofs.Common.{◌≡◌, ◌+◌, ◌-◌, ◌<◌, ◌≤◌, length}
+use Rattle.dlog.specs.Progress.{IsReady, size_of}
+use Rattle.dlog.specs.Answers.{Taking}
+use Rattle.dlog.specs.Run.{schedule_limit}
+use Rattle.dlog.proofs.replay.read_pieces.Given as goal
+
+abbrev pub invariant-loop-count : goal.invariant-loop-count
+invariant-loop-count g l =
+    let S = g.S.Source in
+    record {
+      taking : Taking (S.left l.fn.source) (S.left l.source) l.fn.run l.run;
+      ready : IsReady l.run;
+      later : S.read_faults l.fn.source ≤ S.read_faults l.source;
+      room : 0 < length l.piece;
+    }
+
+abbrev pub decreases-loop-count : goal.decreases-loop-count
+decreases-loop-count g l = schedule_limit + 1 - size_of l.run

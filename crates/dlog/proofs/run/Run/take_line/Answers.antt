@@ -1,0 +1,12 @@
+use Rattle.std.proofs.Common.{◌++◌, length, sym, ap, ◌∙◌}
+use Rattle.dlog.specs.Progress.{Progress}
+use Rattle.dlog.proofs.RunLemmas.{takes_limit, limit_from}
+use Rattle.dlog.proofs.run.Run.take_line.Goals as goal
+
+pub returns-in-Some-clause-takes : goal.returns-in-Some-clause-takes
+returns-in-Some-clause-takes c =
+    let p = c.args.self.now in
+    takes_limit p (p.pending ++ c.args.back.now) c.in-Some.ended (
+    limit_from p c.self.inside.lines c.self.inside.bytes c.len.result c.args.back.now c.limit_of.result
+    (ap (λ (v : Progress). v.lines) c.self.view_is) (ap (λ (v : Progress). v.bytes) c.self.view_is) (c.len.ensures ∙ c.self.inside.pending.ok.0 ∙ ap (λ (v : Progress). length v.pending) c.self.view_is) c.limit_of.ensures
+    ∙ c.in-Some.is)

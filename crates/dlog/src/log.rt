@@ -1,0 +1,257 @@
+ghost use Rattle.std.specs.Prelude.{◌≡◌, ◌+◌, ◌<◌, ◌≤◌, ◌++◌, ◌∷◌, [], length, OnOk, nat_le, map, ◌^◌, List};
+ghost use Rattle.std.specs.List.{flat_map};
+ghost use Rattle.dlog.specs.Machine.{new_log, take, send, append, flush, confirm, confirmed, grow, ack, entry_size, record_size, entry_limit, is_window_full};
+ghost use Rattle.dlog.specs.Counts.{HasRoom};
+
+use crate::entry::Entry;
+use dl_transcript::event::Event;
+use dl_transcript::events::Events;
+use dl_types::client::ClientId;
+use dl_types::dlsn::Dlsn;
+use dl_types::memory::NoMemory;
+use dl_types::name::Name;
+use dl_types::payload::Payload;
+use dl_types::refusal::Refusal;
+use dl_types::row::{Origin, Row};
+use dl_types::txid::TxId;
+use std::alloc::Global;
+use std::marker::Model;
+use std::mem;
+
+/// The segment that the one writer writes.
+pub const SEGMENT: u64 = 1;
+
+/// The most bytes of a payload.
+const PAYLOAD_LIMIT: usize = 1_040_384;
+
+/// The most entries that may be sent and unconfirmed.
+const WINDOW: usize = 64;
+
+/// A log that a client writes. Records are packed into the entry under way, which is sent when it is full or flushed;
+/// what was sent waits until it is confirmed. Contracts see it as the log of specs/Machine.antt. After want of memory
+/// a log has ended, and is not used again.
+#[derive(Drop)]
+pub struct Log {
+    alloc: Global,
+    client: ClientId,
+    stream: Name,
+    taken: u32,
+    last: TxId,
+    sent: u64,
+    waiting: Vec<Entry>,
+    filling: Entry,
+}
+
+impl Model for Log {
+    ghost use Rattle.dlog.specs.Machine.{Log as LogState};
+
+    ghost Value = { LogState };
+
+    ghost view = { λ g. record {
+      client = g.client;
+      stream = g.stream;
+      taken = g.taken;
+      last = g.last;
+      sent = g.sent;
+      waiting = g.waiting.items;
+      filling = g.filling;
+    } };
+}
+
+impl Log {
+    /// A log into which nothing was taken yet.
+    pub fn new(alloc: Global, client: ClientId, stream: Name) -> Log
+        ensures { result ≡ new_log client stream }
+    {
+        Log {
+            alloc,
+            client,
+            stream,
+            taken: 0,
+            last: TxId::new(0),
+            sent: 0,
+            waiting: Vec::new(alloc),
+            filling: Entry::new(alloc),
+        }
+    }
+
+    /// Takes a record, after sending the entry under way where the record doesn't fit it; or shows why it is refused:
+    /// it is too long, its id goes back, or an entry would have to be sent while the window is full.
+    #[tactic(auto, unfolding(crate::specs::Machine::append, crate::specs::Machine::send_and_take, crate::specs::Machine::send))]
+    pub fn append(
+        &mut self,
+        txid: TxId,
+        payload: Payload,
+        events: &mut Events,
+    ) -> Result<(), NoMemory>
+        requires { HasRoom self.old }
+        ensures state { OnOk result (self.new ≡ (append self.old txid payload).0) }
+        ensures shown { OnOk result (events.new ≡ events.old ++ (append self.old txid payload).1) }
+    {
+        let bytes = payload.len();
+        if bytes > PAYLOAD_LIMIT {
+            return self.refuse(
+                Refusal::TooLong {
+                    length: bytes as u64,
+                },
+                events,
+            );
+        }
+        if txid < self.last {
+            return self.refuse(
+                Refusal::TxidBack {
+                    last: self.last,
+                    given: txid,
+                },
+                events,
+            );
+        }
+        if self.filling.fits(bytes) {
+            return self.take(txid, payload, events);
+        }
+        if self.is_window_full() {
+            return self.refuse(Refusal::WindowFull, events);
+        }
+        self.send(events)?;
+        self.take(txid, payload, events)
+    }
+
+    /// Sends the entry under way where it has a record and the window isn't full.
+    #[tactic(auto, unfolding(crate::specs::Machine::flush))]
+    pub fn flush(&mut self, events: &mut Events) -> Result<(), NoMemory>
+        requires { HasRoom self.old }
+        ensures state { OnOk result (self.new ≡ (flush self.old).0) }
+        ensures shown { OnOk result (events.new ≡ events.old ++ (flush self.old).1) }
+    {
+        if self.filling.is_empty() {
+            return events.push(Event::Nothing);
+        }
+        if self.is_window_full() {
+            return self.refuse(Refusal::WindowFull, events);
+        }
+        self.send(events)
+    }
+
+    /// Confirms each entry that was sent, in order.
+    #[tactic(auto, unfolding(crate::specs::Machine::confirm))]
+    pub fn confirm(&mut self, events: &mut Events) -> Result<(), NoMemory>
+        ensures state { OnOk result (self.new ≡ (confirm self.old).0) }
+        ensures shown { OnOk result (events.new ≡ events.old ++ (confirm self.old).1) }
+    {
+        show_entries(&self.stream, &self.waiting, events)?;
+        self.waiting.clear();
+        Ok(())
+    }
+
+    fn is_window_full(&self) -> bool
+        ensures { result ≡ is_window_full self.now }
+    {
+        self.waiting.len() >= WINDOW
+    }
+
+    fn refuse(&self, refusal: Refusal, events: &mut Events) -> Result<(), NoMemory>
+        ensures { OnOk result (events.new ≡ events.old ++ Event.Refused self.now.client refusal ∷ []) }
+    {
+        events.push(Event::Refused {
+            client: self.client,
+            refusal,
+        })
+    }
+
+    /// Takes a record into the entry under way.
+    #[tactic(auto, unfolding(crate::specs::Machine::take))]
+    fn take(&mut self, txid: TxId, payload: Payload, events: &mut Events) -> Result<(), NoMemory>
+        requires room { self.old.taken + 1 < 2 ^ 32 }
+        requires fits { entry_size self.old.filling + record_size (length payload) ≤ entry_limit }
+        ensures state { OnOk result (self.new ≡ (take self.old txid payload).0) }
+        ensures shown { OnOk result (events.new ≡ events.old ++ (take self.old txid payload).1) }
+    {
+        let call = self.taken + 1;
+        let row = Row {
+            place: Dlsn {
+                segment: SEGMENT,
+                entry: self.sent,
+                slot: self.filling.len() as u32,
+            },
+            txid,
+            payload: payload.share()?,
+            origin: Origin {
+                client: self.client,
+                call,
+            },
+        };
+        self.filling.push(row)?;
+        self.taken = call;
+        self.last = txid;
+        let stream = self.stream.share()?;
+        events.push(Event::Took {
+            client: self.client,
+            call,
+            stream,
+            txid,
+            payload,
+        })
+    }
+
+    /// Sends the entry under way.
+    #[tactic(auto, unfolding(crate::specs::Machine::send))]
+    fn send(&mut self, events: &mut Events) -> Result<(), NoMemory>
+        requires { self.old.sent + 1 < 2 ^ 64 }
+        ensures state { OnOk result (self.new ≡ (send self.old).0) }
+        ensures shown { OnOk result (events.new ≡ events.old ++ (send self.old).1) }
+    {
+        let entry = mem::replace(&mut self.filling, Entry::new(self.alloc));
+        self.waiting.push(entry)?;
+        let number = self.sent;
+        self.sent += 1;
+        events.push(Event::Sent {
+            client: self.client,
+            segment: SEGMENT,
+            entry: number,
+        })
+    }
+}
+
+/// Shows that each row stands in the stream.
+fn show_grows(stream: &Name, rows: &[Row], events: &mut Events) -> Result<(), NoMemory>
+    ensures { OnOk result (events.new ≡ events.old ++ map (grow stream.now) rows.now) }
+{
+    for row in rows {
+        let name = stream.share()?;
+        let payload = row.payload.share()?;
+        events.push(Event::Grow {
+            stream: name,
+            place: row.place,
+            txid: row.txid,
+            client: row.origin.client,
+            call: row.origin.call,
+            payload,
+        })?;
+    }
+    Ok(())
+}
+
+/// Shows that each row is acknowledged.
+fn show_acks(rows: &[Row], events: &mut Events) -> Result<(), NoMemory>
+    ensures { OnOk result (events.new ≡ events.old ++ map ack rows.now) }
+{
+    for row in rows {
+        events.push(Event::Ack {
+            client: row.origin.client,
+            call: row.origin.call,
+            place: row.place,
+        })?;
+    }
+    Ok(())
+}
+
+/// Shows that the entries are confirmed, in order.
+fn show_entries(stream: &Name, entries: &[Entry], events: &mut Events) -> Result<(), NoMemory>
+    ensures { OnOk result (events.new ≡ events.old ++ flat_map (confirmed stream.now) entries.now) }
+{
+    for entry in entries {
+        show_grows(stream, entry.rows(), events)?;
+        show_acks(entry.rows(), events)?;
+    }
+    Ok(())
+}

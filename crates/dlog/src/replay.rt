@@ -1,0 +1,141 @@
+ghost use Rattle.std.specs.Prelude.{◌≡◌, ◌<◌, length, IfOk, OnOk, IsErrOf};
+ghost use Rattle.std.specs.Io.KnownBytes.{Appends};
+ghost use Rattle.dl_io.specs.Causes.{Rose, HasCause};
+ghost use Rattle.dl_io.specs.Sinks.{FinishesAll, GivesFront};
+ghost use Rattle.dl_types.specs.declared.status.Status.{Status};
+ghost use Rattle.dlog.specs.declared.replay.ReadStop.TheVariants.{Fault, NoMemory as Exhausted};
+ghost use Rattle.dlog.specs.Answers.{Took, TookFront, Replayed, status_of};
+ghost use Rattle.dlog.specs.Progress.{IsReady, begun};
+
+use crate::ended::Ended;
+use crate::run::Run;
+use dl_io::traits::{ReadFailed, Sink, Source, WriteFailed};
+use dl_io::whole::write_all;
+use dl_types::memory::NoMemory;
+use dl_types::status::Status;
+use std::alloc::{AllocError, Global};
+
+/// The most bytes that are asked of the source at once.
+const PIECE: usize = 65_536;
+
+/// Why a run was not brought to its end.
+#[derive(Clone, Copy, Debug, PartialEq, Eq)]
+enum ReadStop {
+    /// A read failed.
+    Fault,
+    /// Memory ran out.
+    NoMemory,
+}
+
+impl From<ReadFailed> for ReadStop {
+    ghost from_gives = { λ _ e. e ≡ Fault };
+
+    fn from(_error: ReadFailed) -> ReadStop {
+        ReadStop::Fault
+    }
+}
+
+impl From<NoMemory> for ReadStop {
+    ghost from_gives = { λ _ e. e ≡ Exhausted };
+
+    fn from(_error: NoMemory) -> ReadStop {
+        ReadStop::NoMemory
+    }
+}
+
+/// Room for one piece.
+fn make_piece(alloc: Global) -> Result<Vec<u8>, NoMemory>
+    ensures { IfOk result (λ piece. 0 < length piece.items) }
+{
+    let piece = vec![in alloc; 0u8; PIECE]?;
+    Ok(piece)
+}
+
+/// Takes pieces from the source, one byte at least in each turn, until the input ends or the run comes to its stop.
+fn read_pieces<S: Source>(
+    source: &mut S,
+    piece: &mut [u8],
+    run: &mut Run,
+) -> Result<Ended, ReadStop>
+    requires ready { IsReady run.old }
+    requires room { 0 < length piece.old }
+    ensures took { IfOk result (Took (S.left source.old) (S.left source.new) run.old run.new) }
+    ensures front { TookFront (S.left source.old) (S.left source.new) }
+    ensures cause { IsErrOf result ReadStop.Fault → Rose (S.read_faults source.old) (S.read_faults source.new) }
+{
+    loop {
+        let count = source.take(piece)?;
+        if count == 0 {
+            return Ok(run.end()?);
+        }
+        if let Some(ended) = run.feed(&piece[..count])? {
+            return Ok(ended);
+        }
+    }
+}
+
+/// Brings a run to the end of the input or to its stop.
+fn read_run<S: Source>(alloc: Global, source: &mut S, run: &mut Run) -> Result<Ended, ReadStop>
+    requires { IsReady run.old }
+    ensures took { IfOk result (Took (S.left source.old) (S.left source.new) run.old run.new) }
+    ensures front { TookFront (S.left source.old) (S.left source.new) }
+    ensures cause { IsErrOf result ReadStop.Fault → Rose (S.read_faults source.old) (S.read_faults source.new) }
+{
+    let mut piece = make_piece(alloc)?;
+    read_pieces(source, piece.as_mut_slice(), run)
+}
+
+/// Gives a whole text to the sink, and finishes it.
+fn give<K: Sink>(sink: &mut K, text: &[u8]) -> Result<(), WriteFailed>
+    ensures ok { OnOk result (Appends (K.held sink.old) (K.held sink.new) text.now) }
+    ensures finished { OnOk result (FinishesAll (K.held sink.new) (K.finished sink.old) (K.finished sink.new)) }
+    ensures some { GivesFront (K.held sink.old) (K.held sink.new) text.now }
+    ensures cause { HasCause (K.write_faults sink.old) (K.write_faults sink.new) result }
+{
+    write_all(sink, text)?;
+    sink.finish()
+}
+
+/// The status of a run that was brought to its end.
+fn status_of(ended: Ended) -> Status
+    ensures { result ≡ status_of ended }
+{
+    match ended {
+        Ended::Done => Status::Ok,
+        Ended::BadLine { line, column } => Status::BadSchedule { line, column },
+        Ended::Limit { name, number } => Status::Limit { name, number },
+    }
+}
+
+/// Brings a run that has taken nothing to its end, and gives what it printed.
+fn replay_run<S: Source, K: Sink>(
+    alloc: Global,
+    source: &mut S,
+    sink: &mut K,
+    run: &mut Run,
+) -> Status
+    requires { run.old ≡ begun }
+    ensures replayed { Replayed (S.left source.old) (S.left source.new) (K.held sink.old) (K.held sink.new) (K.finished sink.old) (K.finished sink.new) result }
+    ensures read { result ≡ Status.ReadFault → Rose (S.read_faults source.old) (S.read_faults source.new) }
+    ensures write { result ≡ Status.WriteFault → Rose (K.write_faults sink.old) (K.write_faults sink.new) }
+{
+    match read_run(alloc, source, run) {
+        Err(ReadStop::Fault) => Status::ReadFault,
+        Err(ReadStop::NoMemory) => Status::NoMemory,
+        Ok(ended) => match give(sink, run.text()) {
+            Err(WriteFailed) => Status::WriteFault,
+            Ok(()) => status_of(ended),
+        },
+    }
+}
+
+/// Replays the schedule that the source has left, and gives its transcript to the sink: reads, runs and then gives. The
+/// source is read no further than it takes to know the stop.
+pub fn replay<S: Source, K: Sink>(alloc: Global, source: &mut S, sink: &mut K) -> Status
+    ensures replayed { Replayed (S.left source.old) (S.left source.new) (K.held sink.old) (K.held sink.new) (K.finished sink.old) (K.finished sink.new) result }
+    ensures read { result ≡ Status.ReadFault → Rose (S.read_faults source.old) (S.read_faults source.new) }
+    ensures write { result ≡ Status.WriteFault → Rose (K.write_faults sink.old) (K.write_faults sink.new) }
+{
+    let mut run = Run::new(alloc);
+    replay_run(alloc, source, sink, &mut run)
+}
