@@ -9,6 +9,8 @@ mod machine;
 mod order;
 mod replay;
 mod run;
+#[cfg(test)]
+mod tests;
 mod text;
 mod top;
 
