@@ -2,3 +2,7 @@ pub mod Places
 pub mod Names
 pub mod NameFaults
 pub mod Statuses
+pub mod Quorums
+pub mod Ensembles
+pub mod WriteSets
+pub mod Pieces

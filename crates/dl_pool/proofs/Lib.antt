@@ -1,0 +1,12 @@
+pub mod PageLemmas
+pub mod ChainLemmas
+pub mod SoundLemmas
+pub mod FreeLemmas
+pub mod EmptyLemmas
+pub mod PutLemmas
+pub mod FreedLemmas
+pub mod NewLemmas
+pub mod ReadLemmas
+pub mod LiveLemmas
+pub mod CopyLemmas
+pub mod HeldLemmas

@@ -1,0 +1,41 @@
+-- Writing to one page leaves the others.
+use Rattle.std.proofs.Common.{◌≡◌, ◌≢◌, ℕ, suc, ◌+◌, ◌-◌, ◌*◌, ◌<◌, ◌≤◌, List, length, take, drop, refl, sym, ap, ◌∙◌, arith, inl, inr, ◌⊎◌}
+use Rattle.std.proofs.lemmas.Bool.{cases_lt}
+use Rattle.std.proofs.lemmas.List.{drop-take}
+use Rattle.std.proofs.lemmas.Slice.{take-put_mid_below, drop-put_mid}
+use borrow.Rule.Slice.PartMut.{put_mid}
+use Rattle.dl_pool.specs.Pools.{pages_of}
+use Rattle.dl_pool.specs.Pages.{page_bytes}
+
+pub page_bytes-other : (page other k : ℕ) (xs ys : List ℕ) → page * 4096 + 4096 ≤ length xs → length ys ≡ k → k ≤ 4096 → other ≢ page → page_bytes (put_mid (page * 4096) k xs ys) other ≡ page_bytes xs other
+page_bytes-other page other k xs ys within size small apart = go (cases_lt other page)
+  where
+    go : (other < page) ⊎ (page ≤ other) → page_bytes (put_mid (page * 4096) k xs ys) other ≡ page_bytes xs other
+    go (inl below) =
+        sym (drop-take (other * 4096) 4096 (put_mid (page * 4096) k xs ys))
+        ∙ ap (drop (other * 4096)) (take-put_mid_below (page * 4096) k xs ys (other * 4096 + 4096) (omega arith) (omega arith))
+        ∙ drop-take (other * 4096) 4096 xs
+    go (inr above) =
+        let after : page < other = omega arith in
+        ap (take 4096) (drop-put_mid (page * 4096) k xs ys (other * 4096) (omega arith) (omega arith) size)
+
+-- how many pages are needed
+pub pages_of-zero : pages_of 0 ≡ 0
+unfolding pages_of
+pages_of-zero = refl
+
+pub pages_of-enough : (n : ℕ) → n ≤ pages_of n * 4096
+unfolding pages_of
+pages_of-enough n = omega arith
+
+pub pages_of-some : (n : ℕ) → 0 < n → 0 < pages_of n
+unfolding pages_of
+pages_of-some n some = omega arith
+
+pub pages_of-below : (n i : ℕ) → i < pages_of n → i * 4096 < n
+unfolding pages_of
+pages_of-below n i below = omega arith
+
+pub pages_of-more : (n : ℕ) → 0 < n → pages_of n ≡ suc (pages_of (n - 4096))
+unfolding pages_of
+pages_of-more n some = omega arith

@@ -1,0 +1,38 @@
+-- Reading a piece page by page.
+use Rattle.std.proofs.Common.{◌≡◌, ℕ, ◌-◌, ◌*◌, ◌<◌, min, List, [], ◌∷◌, length, take, drop, slice_index, sym, ap, ◌∙◌, arith}
+use Rattle.dl_pool.specs.Pools.{pages_of}
+use Rattle.dl_pool.specs.Pages.{walk, times, parts_in, IsReadable}
+use Rattle.dl_pool.proofs.PageLemmas.{pages_of-zero, pages_of-more}
+use Rattle.dl_pool.proofs.ChainLemmas.{times-head, times-tail-le}
+
+pub no_parts : (m next : List ℕ) (page n : ℕ) → n ≡ 0 → parts_in m (walk next page (pages_of n)) n ≡ []
+no_parts m next page n none = ap (λ k. parts_in m (walk next page (pages_of k)) k) none ∙ ap (λ k. parts_in m (walk next page k) 0) pages_of-zero
+
+left_is : (n count : ℕ) → count ≡ min n 4096 → n - count ≡ n - 4096
+left_is n count is = omega arith
+
+pub first_readable : (m next : List ℕ) (page n : ℕ) → IsReadable m next page n → 0 < n → page < length next
+first_readable m next page n readable some =
+    readable.within page
+    (omega (arith, ap (λ k. times page (walk next page k)) (pages_of-more n some), times-head page (walk next (slice_index next page) (pages_of (n - 4096)))))
+
+pub rest_readable : (m next : List ℕ) (page n count : ℕ) → IsReadable m next page n → 0 < n → count ≡ min n 4096 → IsReadable m next (slice_index next page) (n - count)
+rest_readable m next page n count readable some is = record {
+  memory_length = readable.memory_length;
+  within = λ q stands.
+      readable.within q
+      (omega (
+        arith,
+        ap (λ k. times q (walk next page k)) (pages_of-more n some),
+        times-tail-le q page (walk next (slice_index next page) (pages_of (n - 4096))),
+        ap (λ k. times q (walk next (slice_index next page) (pages_of k))) (left_is n count is),
+        stands,
+      ));
+}
+
+pub parts_step : (m next : List ℕ) (page n count : ℕ) → 0 < n → count ≡ min n 4096
+    → parts_in m (walk next page (pages_of n)) n ≡ take count (drop (page * 4096) m) ∷ parts_in m (walk next (slice_index next page) (pages_of (n - count))) (n - count)
+parts_step m next page n count some is =
+    ap (λ k. parts_in m (walk next page k) n) (pages_of-more n some)
+    ∙ ap (λ k. take k (drop (page * 4096) m) ∷ parts_in m (walk next (slice_index next page) (pages_of (n - 4096))) (n - 4096)) (sym is)
+    ∙ ap (λ k. take count (drop (page * 4096) m) ∷ parts_in m (walk next (slice_index next page) (pages_of k)) k) (sym (left_is n count is))
