@@ -10,5 +10,7 @@ pub mod payload;
 pub mod refusal;
 pub mod row;
 pub mod status;
+#[cfg(test)]
+mod tests;
 pub mod txid;
 pub mod word;
