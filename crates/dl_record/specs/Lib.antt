@@ -1,2 +1,3 @@
 pub mod Stored
 pub mod Grammar
+pub mod Reading

@@ -1,13 +1,22 @@
-ghost use Rattle.std.specs.Prelude.{◌≡◌, ◌<◌, ◌≤◌, ◌^◌, ◌++◌, ◌+◌, ◌-◌, length, take, drop, OnOk, OnErr, IfOk};
+ghost use Rattle.std.specs.Prelude.{◌≡◌, ◌<◌, ◌≤◌, ◌^◌, ◌++◌, ◌+◌, ◌-◌, length, take, drop, map, OnOk, OnErr, IfOk, All};
 ghost use Rattle.std.specs.List.{flat_map};
-ghost use Rattle.dl_record.specs.Grammar.{member_bytes, set_bytes, fields_and_payload};
 ghost use Rattle.std.specs.Int.{w8, w16, w32, w64};
 ghost use Rattle.dl_codec.specs.Fields.{field};
+ghost use Rattle.std.specs.Prelude.{[], ◌∷◌};
+ghost use Rattle.dl_record.specs.declared.stored.Stored.TheVariants.{Control};
+ghost use Rattle.dl_record.specs.Grammar.{member_bytes, set_bytes, fields_and_payload, header_bytes, record_bytes, entry_bytes, IsRecord, IsEntry};
 
+use crate::entry_bytes::EntryBytes;
+use crate::stored::Stored;
+use byteorder::{BigEndian, ByteOrder};
 use dl_codec::write::{put_u8, put_u16, put_u32, put_u64};
 use dl_types::memory::NoMemory;
 use dl_types::payload::Payload;
+use dl_types::txid::TxId;
 use std::alloc::Global;
+
+/// The length of an entry's header.
+pub(crate) const HEADER: usize = 8;
 
 /// Adds the fields of a stored record: its position, its flags, its transaction id, and the length of what follows.
 fn put_fields(
@@ -15,7 +24,7 @@ fn put_fields(
     out: &mut Vec<u8>,
     position: u32,
     flags: u32,
-    txid: u64,
+    txid: TxId,
     size: u32,
 ) -> Result<(), NoMemory>
     ensures ok { OnOk result (out.new.items ≡ out.old.items ++ (field w32 position ++ (field w32 flags ++ (field w64 txid ++ field w32 size)))) }
@@ -23,7 +32,140 @@ fn put_fields(
 {
     put_u32(alloc, out, position)?;
     put_u32(alloc, out, flags)?;
-    put_u64(alloc, out, txid)?;
+    put_u64(alloc, out, txid.number())?;
     put_u32(alloc, out, size)?;
     Ok(())
+}
+
+/// Adds a stored record with this payload.
+#[tactic(auto, unfolding(crate::specs::Grammar::fields_and_payload))]
+pub(crate) fn put_payload(
+    alloc: Global,
+    out: &mut Vec<u8>,
+    position: u32,
+    flags: u32,
+    txid: TxId,
+    payload: &[u8],
+) -> Result<(), NoMemory>
+    requires { length payload.now ≤ 1040384 }
+    ensures ok { OnOk result (out.new.items ≡ out.old.items ++ fields_and_payload position flags txid payload.now) }
+    ensures err { OnErr result (take (length out.old.items) out.new.items ≡ out.old.items) }
+{
+    put_fields(alloc, out, position, flags, txid, payload.len() as u32)?;
+    out.extend_from_slice(payload)?;
+    Ok(())
+}
+
+/// How many bytes a record set of these payloads has.
+fn set_size(payloads: &[Payload]) -> usize
+    requires { length (set_bytes payloads.now) ≤ 1040384 }
+    ensures { result ≡ length (set_bytes payloads.now) }
+{
+    let mut size = 4;
+    for payload in payloads {
+        size += 4 + payload.len();
+    }
+    size
+}
+
+/// Adds the members of a record set.
+fn put_members(alloc: Global, out: &mut Vec<u8>, payloads: &[Payload]) -> Result<(), NoMemory>
+    requires { length (flat_map member_bytes payloads.now) ≤ 1040384 }
+    ensures ok { OnOk result (out.new.items ≡ out.old.items ++ flat_map member_bytes payloads.now) }
+    ensures err { OnErr result (take (length out.old.items) out.new.items ≡ out.old.items) }
+{
+    for payload in payloads {
+        put_u32(alloc, out, payload.len() as u32)?;
+        out.extend_from_slice(payload.as_slice())?;
+    }
+    Ok(())
+}
+
+/// Writes the header of an entry over the first eight bytes.
+#[tactic(auto, unfolding(crate::specs::Grammar::header_bytes, dl_codec::specs::Fields::field))]
+pub(crate) fn write_header(out: &mut [u8], count: u16, size: u32)
+    requires { 8 ≤ length out.old }
+    ensures { out.new ≡ header_bytes count size ++ drop 8 out.old }
+{
+    out[0] = 1;
+    out[1] = 0;
+    BigEndian::write_u16(&mut out[2..], count);
+    BigEndian::write_u32(&mut out[4..], size);
+}
+
+/// Adds a record set.
+#[tactic(auto, unfolding(crate::specs::Grammar::fields_and_payload, crate::specs::Grammar::set_bytes))]
+pub(crate) fn put_set(
+    alloc: Global,
+    out: &mut Vec<u8>,
+    position: u32,
+    txid: TxId,
+    payloads: &[Payload],
+) -> Result<(), NoMemory>
+    requires members { length payloads.now ≤ 64 }
+    requires size { length (set_bytes payloads.now) ≤ 1040384 }
+    ensures ok { OnOk result (out.new.items ≡ out.old.items ++ fields_and_payload position 4 txid (set_bytes payloads.now)) }
+    ensures err { OnErr result (take (length out.old.items) out.new.items ≡ out.old.items) }
+{
+    put_fields(alloc, out, position, 4, txid, set_size(payloads) as u32)?;
+    put_u8(alloc, out, 0)?;
+    put_u8(alloc, out, 0)?;
+    put_u16(alloc, out, payloads.len() as u16)?;
+    put_members(alloc, out, payloads)?;
+    Ok(())
+}
+
+/// Adds a stored record.
+fn put_record(alloc: Global, out: &mut Vec<u8>, stored: &Stored) -> Result<(), NoMemory>
+    requires { IsRecord stored.now }
+    ensures ok { OnOk result (out.new.items ≡ out.old.items ++ record_bytes stored.now) }
+{
+    match stored {
+        Stored::Plain {
+            position,
+            txid,
+            payload,
+        } => put_payload(alloc, out, *position, 0, *txid, payload.as_slice()),
+        Stored::Control { position, txid } => put_payload(alloc, out, *position, 1, *txid, &[]),
+        Stored::Set {
+            position,
+            txid,
+            payloads,
+        } => put_set(alloc, out, *position, *txid, payloads.as_slice()),
+    }
+}
+
+/// Adds stored records, one after the other.
+fn put_records(alloc: Global, out: &mut Vec<u8>, parts: &[Stored]) -> Result<(), NoMemory>
+    requires { All IsRecord parts.now }
+    ensures ok { OnOk result (out.new.items ≡ out.old.items ++ flat_map record_bytes parts.now) }
+{
+    for part in parts {
+        put_record(alloc, out, part)?;
+    }
+    Ok(())
+}
+
+/// The bytes of an entry of these stored records.
+pub fn encode_entry(alloc: Global, parts: &[Stored]) -> Result<EntryBytes, NoMemory>
+    requires { IsEntry parts.now }
+    ensures { IfOk result (λ entry. entry ≡ entry_bytes parts.now) }
+{
+    let mut out = vec![in alloc; 0; HEADER]?;
+    put_records(alloc, &mut out, parts)?;
+    let size = (out.len() - HEADER) as u32;
+    write_header(&mut out, parts.len() as u16, size);
+    EntryBytes::from_vec(out)
+}
+
+/// The bytes of an entry that holds a control record alone.
+pub fn control(alloc: Global, position: u32, txid: TxId) -> Result<EntryBytes, NoMemory>
+    ensures bytes { IfOk result (λ entry. entry ≡ entry_bytes (Control position txid ∷ [])) }
+    ensures entry { IsEntry (Control position txid ∷ []) }
+{
+    let mut out = vec![in alloc; 0; HEADER]?;
+    put_payload(alloc, &mut out, position, 1, txid, &[])?;
+    let size = (out.len() - HEADER) as u32;
+    write_header(&mut out, 1, size);
+    EntryBytes::from_vec(out)
 }

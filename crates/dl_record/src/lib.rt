@@ -1,9 +1,13 @@
 //! The entries of a log segment: stored records as bytes, what is read of them, and the walk over their rows.
 #![tactic(auto)]
 
+pub mod decode;
 pub mod encode;
 pub mod entry_bytes;
 pub mod entry_fault;
+mod fields;
+mod head;
+mod kind;
 pub mod payloads;
 pub mod records;
 pub mod stored;

@@ -1,0 +1,9 @@
+use Rattle.std.proofs.Common.{arith}
+use Rattle.dl_record.proofs.Sizes.{each_record, count_fits}
+use Rattle.dl_record.proofs.encode.encode_entry.Goals as goal
+
+pub put_records-requires : goal.put_records-requires
+put_records-requires c = each_record c.args.parts.now c.requires
+
+pub overflow_cast-parts : goal.overflow_cast-parts
+overflow_cast-parts c = omega (arith, count_fits c.args.parts.now c.requires)
