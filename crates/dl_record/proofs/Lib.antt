@@ -3,3 +3,6 @@ pub mod Sizes
 pub mod Loop
 pub mod Steps
 pub mod Members
+pub mod Heads
+pub mod RecordLaws
+pub mod Entries

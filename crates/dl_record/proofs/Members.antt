@@ -3,7 +3,7 @@ use Rattle.std.proofs.Common.{◌≡◌, ℕ, zero, suc, ◌-◌, ◌+◌, ◌�
 use Rattle.std.specs.Prelude.{slice_range}
 use Rattle.std.specs.List.{flat_map, AllByRecursion}
 use Rattle.std.specs.Int.{Width, w8, w16, w32, byte_len}
-use Rattle.std.proofs.lemmas.Bool.{eqb-true, eq-eqb, leb-le, le-leb}
+use Rattle.std.proofs.lemmas.Bool.{eqb-true, eq-eqb, leb-true, le-leb}
 use Rattle.std.proofs.lemmas.Bool.Decides.{nat_tests}
 use Rattle.std.proofs.lemmas.List.{drop_all, length-drop}
 use Rattle.dl_codec.specs.Fields.{field, IsBytes}
@@ -55,7 +55,7 @@ member_again bytes at payload rest fits e =
 -- ---- the members
 
 -- whether the bytes end at a place
-ends_there : {A : Type 0} (at : ℕ) (bytes : List ℕ) (x y : A) → (let r : Result A EntryFault = cond (eqb at (length bytes)) (Ok x) (Err (Long at)) in r) ≡ Ok y → (at ≡ length bytes) × (x ≡ y)
+pub ends_there : {A : Type 0} (at : ℕ) (bytes : List ℕ) (x y : A) → (let r : Result A EntryFault = cond (eqb at (length bytes)) (Ok x) (Err (Long at)) in r) ≡ Ok y → (at ≡ length bytes) × (x ≡ y)
 ends_there {A} at bytes x y = go (eqb at (length bytes)) refl
   where
     go : (t : Bool) → eqb at (length bytes) ≡ t → (let r : Result A EntryFault = cond t (Ok x) (Err (Long at)) in r) ≡ Ok y → (at ≡ length bytes) × (x ≡ y)

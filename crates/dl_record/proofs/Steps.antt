@@ -2,7 +2,7 @@
 use Rattle.std.proofs.Common.{◌≡◌, ℕ, ◌-◌, ◌+◌, ◌≤◌, ◌<◌, ◌^◌, Bool, true, false, cond, eqb, ltb, leb, List, [], ◌∷◌, ◌++◌, length, take, drop, get_or, Result, Ok, Err, refl, sym, ap, subst, ◌∙◌, arith, inl, inr, length-append}
 use Rattle.std.specs.Prelude.{slice_range}
 use Rattle.std.specs.Int.{Width, byte_len}
-use Rattle.std.proofs.lemmas.Bool.{cases_lt, leb-le, le-leb}
+use Rattle.std.proofs.lemmas.Bool.{cases_lt, leb-true, le-leb}
 use Rattle.std.proofs.lemmas.List.{take_at, drop_at, take-append-drop, length-take, length-take-le, length-drop, drop-drop, get_or-drop, get_or-take, get_or_past}
 use Rattle.dl_codec.specs.declared.short.Short as codec
 use Rattle.dl_codec.specs.Fields.{field, number_of, number_at, short_at, IsBytes, HasOneSpelling}
@@ -72,7 +72,7 @@ field_found w law bytes at next n fits place e =
     let k = byte_len w in
     let cells = take k (drop at bytes) in
     let g = numbered (leb (at + k) (length bytes)) (number_of w cells) n (short_at at) (or_short_ok (cond (leb (at + k) (length bytes)) (number (number_of w cells)) (Err (short_at at))) n e) in
-    let long : at + k ≤ length bytes = leb-le (at + k) (length bytes) g.0 in
+    let long : at + k ≤ length bytes = leb-true (at + k) (length bytes) g.0 in
     let cells-fit = IsBytes-take k (drop at bytes) (IsBytes-drop at bytes fits) in
     let len : length cells ≡ k = length-take-le k (drop at bytes) (omega (arith, length-drop at bytes)) in
     let spelt : field w n ≡ cells = ap (field w) (sym g.1) ∙ law.spelt cells len cells-fit in
@@ -134,7 +134,7 @@ pub end_found : (bytes : List ℕ) (at size end : ℕ) → end_at bytes at size 
 unfolding end_at
 end_found bytes at size end e =
     let g = allowed_ok (leb (at + size) (length bytes)) _ (at + size) end e in
-    (sym g.1, omega (arith, leb-le (at + size) (length bytes) g.0))
+    (sym g.1, omega (arith, leb-true (at + size) (length bytes) g.0))
 
 pub end_again : (bytes : List ℕ) (at size : ℕ) → at + size ≤ length bytes → end_at bytes at size ≡ Ok (at + size)
 unfolding end_at

@@ -11,6 +11,7 @@ use Rattle.dl_record.specs.declared.kind.Kind.{Kind}
 use Rattle.dl_record.specs.declared.kind.Kind.TheVariants as kinds
 use Rattle.dl_record.specs.declared.kind.Head.{Head}
 use Rattle.dl_record.specs.Stored.{position_of, txid_of, rows_in}
+use Rattle.dl_record.specs.Grammar.{IsEntryBytes}
 
 infixl 10 ◌>>=◌
 -- one step, and then another, unless the first one found a fault
@@ -149,13 +150,15 @@ set_at bytes at =
 
 -- ---- stored records
 
--- the stored record of these fields, whose payload stands between two places
+-- the stored record of a kind, with the payload that stands between two places
+abbrev pub stored_at : Kind → (position txid : ℕ) → List ℕ → (at end : ℕ) → Result Stored EntryFault
+stored_at kinds.Plain position txid bytes at end = Ok (Plain position txid (slice_range bytes at end))
+stored_at kinds.Control position txid bytes at end = Ok (Control position txid)
+stored_at kinds.Set position txid bytes at end = set_at (take end bytes) at >>= λ payloads. Ok (Set position txid payloads)
+
+-- the stored record of these fields, whose payload begins at a place
 abbrev pub content_at : Head → List ℕ → ℕ → Result Stored EntryFault
-content_at head bytes at = elim head.kind [
-  | kinds.Plain ↦ Ok (Plain head.position head.txid (slice_range bytes at head.end))
-  | kinds.Control ↦ Ok (Control head.position head.txid)
-  | kinds.Set ↦ set_at (take head.end bytes) at >>= λ payloads. Ok (Set head.position head.txid payloads)
-]
+content_at head bytes at = stored_at head.kind head.position head.txid bytes at head.end
 
 -- a stored record, and where it ends
 unfoldable pub record_at : Bool → Option Stored → List ℕ → ℕ → Result (Stored × ℕ) EntryFault
@@ -174,3 +177,8 @@ unfoldable pub entry_at : List ℕ → Result (List Stored) EntryFault
 entry_at bytes =
     if nat_lt 1048576 (length bytes) then Err (TooLong 0)
     else (header_at bytes >>= λ count. records_at count (count == 1) None bytes 8)
+
+-- the fault is the first in the order of the bytes, and they spell no entry; want of memory says nothing of them
+abbrev pub Refuses : List ℕ → EntryFault → Type 0
+Refuses bytes NoMemory = Unit {0}
+Refuses bytes fault = (entry_at bytes ≡ Err fault) × (IsEntryBytes bytes → ⊥)

@@ -1,6 +1,9 @@
 ghost use Rattle.std.specs.Prelude.{◌≡◌, ◌+◌, ◌≤◌, ◌<◌, length, take, IfOk, IfErr, List, ℕ, None, ◌==◌};
 ghost use Rattle.std.specs.Option.{option_copied};
-ghost use Rattle.dl_record.specs.Reading.{Gives, zero_at, members_count_at, member_end_at, members_at, set_at, content_at, record_at, records_at, entry_at};
+ghost use Rattle.dl_record.specs.Reading.{Gives, zero_at, members_count_at, member_end_at, members_at, set_at, content_at, record_at, records_at, entry_at, Refuses};
+ghost use Rattle.std.specs.Prelude.{Ok};
+ghost use Rattle.dl_record.specs.declared.stored.Stored.{Stored};
+ghost use Rattle.dl_record.specs.Grammar.{IsEntry, entry_bytes};
 
 use crate::entry_fault::EntryFault;
 use crate::fields::{end_of, u8_at, u16_at, u32_at};
@@ -152,12 +155,26 @@ fn records_of(alloc: Global, count: u16, bytes: &[u8]) -> Result<Vec<Stored>, En
 
 /// The stored records of an entry, or its first fault.
 #[tactic(auto, unfolding(crate::specs::Reading::entry_at))]
-fn entry_of(alloc: Global, bytes: &[u8]) -> Result<Vec<Stored>, EntryFault>
-    ensures { Gives (λ records. records.items) result (entry_at bytes.now) }
+fn entry_of(alloc: Global, bytes: &[u8]) -> Result<Records, EntryFault>
+    ensures { Gives (λ records. records) result (entry_at bytes.now) }
 {
     if bytes.len() > 1_048_576 {
         return Err(EntryFault::TooLong { at: 0 });
     }
     let count = header_of(bytes)?;
-    records_of(alloc, count, bytes)
+    let records = records_of(alloc, count, bytes)?;
+    Ok(Records::from_vec(records))
+}
+
+/// The stored records of an entry. A fault is the first one in the order of the bytes, at the first byte of its field;
+/// no bytes with a fault are an entry.
+pub fn decode_entry(alloc: Global, bytes: &[u8]) -> Result<Records, EntryFault>
+    // What is read is an entry, and the bytes are its one spelling.
+    ensures found { IfOk result (λ parts. IsEntry parts × (bytes.now ≡ entry_bytes parts)) }
+    // What spells an entry is read, unless memory runs out.
+    ensures only { (parts : List Stored) → IsEntry parts → bytes.now ≡ entry_bytes parts → Gives (λ x. x) result (Ok parts) }
+    // A fault is the first in the order of the bytes, and then they are no entry.
+    ensures refused { IfErr result (Refuses bytes.now) }
+{
+    entry_of(alloc, bytes)
 }
