@@ -27,6 +27,16 @@ fails_too (BadCount at) one other h f = h f
 fails_too (TxidBack at) one other h f = h f
 fails_too (Long at) one other h f = h f
 
+pub fails_is : {Z : Type 0} (fault : EntryFault) (read : Result Z EntryFault) → read ≡ Err fault → Fails fault read
+fails_is NoMemory read e = tt
+fails_is (BadFlags at) read e = e
+fails_is (Compressed at) read e = e
+fails_is (Short at) read e = e
+fails_is (TooLong at) read e = e
+fails_is (BadCount at) read e = e
+fails_is (TxidBack at) read e = e
+fails_is (Long at) read e = e
+
 -- ---- members
 
 pub members_go_on : (front : List (List ℕ)) (count i : ℕ) (bytes : List ℕ) (at end : ℕ) (total : Result (List (List ℕ)) EntryFault) → i < count → member_end_at bytes at ≡ Ok end
@@ -37,14 +47,13 @@ members_go_on front count i bytes at end total lt h so_far =
     let one : with_front front (members_at (count - i) bytes at) ≡ with_front (front ++ slice_range bytes (at + 4) end ∷ []) (members_at (count - (i + 1)) bytes end) = rw (k, h) (regroup front (slice_range bytes (at + 4) end) (members_at (count - (i + 1)) bytes end)) in
     sym one ∙ so_far
 
-pub members_end : (fault : EntryFault) (front : List (List ℕ)) (count i : ℕ) (bytes : List ℕ) (at : ℕ) (total : Result (List (List ℕ)) EntryFault) → i < count → Fails fault (member_end_at bytes at)
+pub members_end : (fault : EntryFault) (front : List (List ℕ)) (count i : ℕ) (bytes : List ℕ) (at : ℕ) (total : Result (List (List ℕ)) EntryFault) → i < count → member_end_at bytes at ≡ Err fault
     → with_front front (members_at (count - i) bytes at) ≡ total → Fails fault total
 unfolding members_at
 members_end fault front count i bytes at total lt failed so_far =
     let k : count - i ≡ suc (count - (i + 1)) = omega arith in
-    fails_too fault (member_end_at bytes at) total (λ h.
-    let one : with_front front (members_at (count - i) bytes at) ≡ Err fault = rw (k, h) refl in
-    sym so_far ∙ one) failed
+    let one : with_front front (members_at (count - i) bytes at) ≡ Err fault = rw (k, failed) refl in
+    fails_is fault total (sym so_far ∙ one)
 
 pub members_are_all : (front : List (List ℕ)) (count i : ℕ) (bytes : List ℕ) (at : ℕ) (total : Result (List (List ℕ)) EntryFault) → count ≤ i
     → with_front front (members_at (count - i) bytes at) ≡ total → total ≡ cond (eqb at (length bytes)) (Ok front) (Err (Long at))

@@ -1,3 +1,7 @@
 pub mod Stored
 pub mod Grammar
 pub mod Reading
+pub mod UserRows
+pub mod Rows
+pub mod Walks
+pub mod RowViews

@@ -17,7 +17,7 @@ use std::alloc::Global;
 
 #[tactic(auto, unfolding(crate::specs::Reading::zero_at))]
 fn zero_of(bytes: &[u8], at: usize) -> Result<u8, EntryFault>
-    ensures exact { Gives (λ n. n) result (zero_at bytes.now at) }
+    ensures exact { zero_at bytes.now at ≡ result }
     ensures room { IfOk result (λ n. at + 1 ≤ length bytes.now) }
 {
     let zero = u8_at(bytes, at)?;
@@ -29,8 +29,9 @@ fn zero_of(bytes: &[u8], at: usize) -> Result<u8, EntryFault>
 }
 
 #[tactic(auto, unfolding(crate::specs::Reading::members_count_at))]
-fn members_count_of(bytes: &[u8], at: usize) -> Result<u16, EntryFault>
-    ensures exact { Gives (λ n. n) result (members_count_at bytes.now at) }
+pub fn members_count_of(bytes: &[u8], at: usize) -> Result<u16, EntryFault>
+    ensures exact { members_count_at bytes.now at ≡ result }
+    ensures some { IfOk result (λ n. 1 ≤ n) }
     ensures room { IfOk result (λ n. at + 2 ≤ length bytes.now) }
 {
     let count = u16_at(bytes, at)?;
@@ -44,7 +45,7 @@ fn members_count_of(bytes: &[u8], at: usize) -> Result<u16, EntryFault>
 /// Where the member at a place ends.
 #[tactic(auto, unfolding(crate::specs::Reading::member_end_at))]
 pub fn member_end_of(bytes: &[u8], at: usize) -> Result<usize, EntryFault>
-    ensures exact { Gives (λ n. n) result (member_end_at bytes.now at) }
+    ensures exact { member_end_at bytes.now at ≡ result }
     ensures room { IfOk result (λ end. (at + 4 ≤ end) × (end ≤ length bytes.now)) }
 {
     let size = u32_at(bytes, at)?;

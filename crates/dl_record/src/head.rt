@@ -1,6 +1,6 @@
 ghost use Rattle.std.specs.Prelude.{◌≡◌, ◌+◌, ◌≤◌, length, IfOk, List, ℕ};
 ghost use Rattle.std.specs.Option.{option_copied};
-ghost use Rattle.dl_record.specs.Reading.{Gives, version_at, codec_at, count_at, size_at, header_at, position_at, kind_at, txid_at, length_at, head_at, may_stand, may_bear, may_hold};
+ghost use Rattle.dl_record.specs.Reading.{version_at, codec_at, count_at, size_at, header_at, position_at, kind_at, txid_at, length_at, head_at, may_stand, may_bear, may_hold};
 
 use crate::entry_fault::EntryFault;
 use crate::fields::{end_of, u8_at, u16_at, u32_at, u64_at};
@@ -10,7 +10,7 @@ use dl_types::txid::TxId;
 
 #[tactic(auto, unfolding(crate::specs::Reading::version_at))]
 fn version_of(bytes: &[u8], at: usize) -> Result<u8, EntryFault>
-    ensures exact { Gives (λ n. n) result (version_at bytes.now at) }
+    ensures exact { version_at bytes.now at ≡ result }
 {
     let version = u8_at(bytes, at)?;
     if version == 1 {
@@ -23,7 +23,7 @@ fn version_of(bytes: &[u8], at: usize) -> Result<u8, EntryFault>
 /// The codec at a place, which is 0: nothing here is compressed.
 #[tactic(auto, unfolding(crate::specs::Reading::codec_at))]
 pub fn codec_of(bytes: &[u8], at: usize) -> Result<u8, EntryFault>
-    ensures exact { Gives (λ n. n) result (codec_at bytes.now at) }
+    ensures exact { codec_at bytes.now at ≡ result }
     ensures room { IfOk result (λ n. at + 1 ≤ length bytes.now) }
 {
     let codec = u8_at(bytes, at)?;
@@ -36,7 +36,7 @@ pub fn codec_of(bytes: &[u8], at: usize) -> Result<u8, EntryFault>
 
 #[tactic(auto, unfolding(crate::specs::Reading::count_at))]
 fn count_of(bytes: &[u8], at: usize) -> Result<u16, EntryFault>
-    ensures exact { Gives (λ n. n) result (count_at bytes.now at) }
+    ensures exact { count_at bytes.now at ≡ result }
 {
     let count = u16_at(bytes, at)?;
     if count == 0 {
@@ -49,7 +49,7 @@ fn count_of(bytes: &[u8], at: usize) -> Result<u16, EntryFault>
 #[tactic(auto, unfolding(crate::specs::Reading::size_at))]
 fn size_of(bytes: &[u8], at: usize) -> Result<u32, EntryFault>
     requires { length bytes.now ≤ 1048576 }
-    ensures exact { Gives (λ n. n) result (size_at bytes.now at) }
+    ensures exact { size_at bytes.now at ≡ result }
     ensures room { IfOk result (λ n. at + 4 ≤ length bytes.now) }
 {
     let size = u32_at(bytes, at)?;
@@ -67,7 +67,7 @@ fn size_of(bytes: &[u8], at: usize) -> Result<u32, EntryFault>
 #[tactic(auto, unfolding(crate::specs::Reading::header_at))]
 pub fn header_of(bytes: &[u8]) -> Result<u16, EntryFault>
     requires { length bytes.now ≤ 1048576 }
-    ensures exact { Gives (λ n. n) result (header_at bytes.now) }
+    ensures exact { header_at bytes.now ≡ result }
     ensures room { IfOk result (λ n. 8 ≤ length bytes.now) }
 {
     let _version = version_of(bytes, 0)?;
@@ -110,7 +110,7 @@ fn may_hold(kind: Kind, size: u32) -> bool
 
 #[tactic(auto, unfolding(crate::specs::Reading::position_at))]
 fn position_of(before: Option<&Stored>, bytes: &[u8], at: usize) -> Result<u32, EntryFault>
-    ensures exact { Gives (λ n. n) result (position_at (option_copied before.entry) bytes.now at) }
+    ensures exact { position_at (option_copied before.entry) bytes.now at ≡ result }
     ensures room { IfOk result (λ n. at + 4 ≤ length bytes.now) }
 {
     let position = u32_at(bytes, at)?;
@@ -123,7 +123,7 @@ fn position_of(before: Option<&Stored>, bytes: &[u8], at: usize) -> Result<u32, 
 
 #[tactic(auto, unfolding(crate::specs::Reading::kind_at))]
 fn kind_of(alone: bool, bytes: &[u8], at: usize) -> Result<Kind, EntryFault>
-    ensures exact { Gives (λ k. k) result (kind_at alone bytes.now at) }
+    ensures exact { kind_at alone bytes.now at ≡ result }
     ensures room { IfOk result (λ n. at + 4 ≤ length bytes.now) }
 {
     let flags = u32_at(bytes, at)?;
@@ -140,7 +140,7 @@ fn kind_of(alone: bool, bytes: &[u8], at: usize) -> Result<Kind, EntryFault>
 
 #[tactic(auto, unfolding(crate::specs::Reading::txid_at))]
 fn txid_of(before: Option<&Stored>, bytes: &[u8], at: usize) -> Result<TxId, EntryFault>
-    ensures exact { Gives (λ n. n) result (txid_at (option_copied before.entry) bytes.now at) }
+    ensures exact { txid_at (option_copied before.entry) bytes.now at ≡ result }
     ensures room { IfOk result (λ n. at + 8 ≤ length bytes.now) }
 {
     let txid = u64_at(bytes, at)?;
@@ -155,7 +155,7 @@ fn txid_of(before: Option<&Stored>, bytes: &[u8], at: usize) -> Result<TxId, Ent
 
 #[tactic(auto, unfolding(crate::specs::Reading::length_at))]
 fn length_of(kind: Kind, bytes: &[u8], at: usize) -> Result<u32, EntryFault>
-    ensures exact { Gives (λ n. n) result (length_at kind bytes.now at) }
+    ensures exact { length_at kind bytes.now at ≡ result }
     ensures room { IfOk result (λ n. at + 4 ≤ length bytes.now) }
 {
     let size = u32_at(bytes, at)?;
@@ -177,7 +177,7 @@ pub fn head_of(
     at: usize,
 ) -> Result<Head, EntryFault>
     requires { at ≤ length bytes.now }
-    ensures exact { Gives (λ head. head) result (head_at alone (option_copied before.entry) bytes.now at) }
+    ensures exact { head_at alone (option_copied before.entry) bytes.now at ≡ result }
     ensures room { IfOk result (λ head. (at + 20 ≤ head.end) × (head.end ≤ length bytes.now)) }
 {
     let position = position_of(before, bytes, at)?;

@@ -1,6 +1,7 @@
 //! The entries of a log segment: stored records as bytes, what is read of them, and the walk over their rows.
 #![tactic(auto)]
 
+mod cursor;
 pub mod decode;
 pub mod encode;
 pub mod entry_bytes;
@@ -11,3 +12,5 @@ mod kind;
 pub mod payloads;
 pub mod records;
 pub mod stored;
+pub mod user_row;
+pub mod walk;
