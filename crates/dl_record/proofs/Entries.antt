@@ -16,7 +16,7 @@ use Rattle.dl_record.proofs.Sizes.{length-header_bytes, length-entry_bytes, coun
 use Rattle.dl_record.proofs.Steps.{bind_ok, ok_is, chosen, allowed_ok, checked_ok, Field, field_found, FieldReads, field_again}
 use Rattle.dl_record.proofs.RecordLaws.{RecordsFound, records_found, records_again}
 
-header_bytes-append : (count size : ℕ) (rest : List ℕ) → header_bytes count size ++ rest ≡ field w8 1 ++ (field w8 0 ++ (field w16 count ++ (field w32 size ++ rest)))
+pub header_bytes-append : (count size : ℕ) (rest : List ℕ) → header_bytes count size ++ rest ≡ field w8 1 ++ (field w8 0 ++ (field w16 count ++ (field w32 size ++ rest)))
 unfolding header_bytes
 header_bytes-append count size rest = simp append_assoc
 

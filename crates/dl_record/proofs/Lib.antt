@@ -6,3 +6,4 @@ pub mod Members
 pub mod Heads
 pub mod RecordLaws
 pub mod Entries
+pub mod WalkLaws

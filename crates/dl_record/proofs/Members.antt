@@ -42,7 +42,7 @@ pub record MemberReads (bytes : List ℕ) (at : ℕ) (payload rest : List ℕ) :
   pub behind : drop (at + 4 + length payload) bytes ≡ rest
   pub room : at + 4 + length payload ≤ length bytes
 
-member_again : (bytes : List ℕ) (at : ℕ) (payload rest : List ℕ) → length payload < 2 ^ 32 → drop at bytes ≡ member_bytes payload ++ rest → MemberReads bytes at payload rest
+pub member_again : (bytes : List ℕ) (at : ℕ) (payload rest : List ℕ) → length payload < 2 ^ 32 → drop at bytes ≡ member_bytes payload ++ rest → MemberReads bytes at payload rest
 unfolding member_end_at
 member_again bytes at payload rest fits e =
     let size = length payload in

@@ -59,7 +59,7 @@ content_again (Set position txid payloads) bytes at end members short e =
     let s = set_again (take end bytes) at payloads members.0 members.1 short (sym (between_is bytes at end) ∙ e) in
     rw s refl
 
-kind_flags-kind_in : (r : Stored) → kind_flags (kind_in r) ≡ flags_of r
+pub kind_flags-kind_in : (r : Stored) → kind_flags (kind_in r) ≡ flags_of r
 kind_flags-kind_in (Plain position txid payload) = refl
 kind_flags-kind_in (Control position txid) = refl
 kind_flags-kind_in (Set position txid payloads) = refl
@@ -69,7 +69,7 @@ kind_fits alone (Plain position txid payload) h = tt
 kind_fits alone (Control position txid) h = h
 kind_fits alone (Set position txid payloads) h = tt
 
-kind_holds : (r : Stored) → may_hold (kind_in r) (length (payload_bytes r)) ≡ true
+pub kind_holds : (r : Stored) → may_hold (kind_in r) (length (payload_bytes r)) ≡ true
 kind_holds (Plain position txid payload) = refl
 kind_holds (Control position txid) = refl
 kind_holds (Set position txid payloads) = refl
@@ -90,7 +90,7 @@ bears_again (Some b) r h = le-leb _ _ h.txid
 
 -- ---- one record
 
-fields_and_payload-append : (position flags txid : ℕ) (payload rest : List ℕ) → fields_and_payload position flags txid payload ++ rest ≡ field w32 position ++ (field w32 flags ++ (field w64 txid ++ (field w32 (length payload) ++ (payload ++ rest))))
+pub fields_and_payload-append : (position flags txid : ℕ) (payload rest : List ℕ) → fields_and_payload position flags txid payload ++ rest ≡ field w32 position ++ (field w32 flags ++ (field w64 txid ++ (field w32 (length payload) ++ (payload ++ rest))))
 unfolding fields_and_payload
 fields_and_payload-append position flags txid payload rest = simp append_assoc
 
