@@ -7,3 +7,4 @@ pub mod Heads
 pub mod RecordLaws
 pub mod Entries
 pub mod WalkLaws
+pub mod BuildingLaws

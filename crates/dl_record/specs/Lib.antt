@@ -5,3 +5,4 @@ pub mod UserRows
 pub mod Rows
 pub mod Walks
 pub mod RowViews
+pub mod Building

@@ -83,7 +83,7 @@ fn put_members(alloc: Global, out: &mut Vec<u8>, payloads: &[Payload]) -> Result
 
 /// Writes the header of an entry over the first eight bytes.
 #[tactic(auto, unfolding(crate::specs::Grammar::header_bytes, dl_codec::specs::Fields::field))]
-pub(crate) fn write_header(out: &mut [u8], count: u16, size: u32)
+fn write_header(out: &mut [u8], count: u16, size: u32)
     requires { 8 ≤ length out.old }
     ensures { out.new ≡ header_bytes count size ++ drop 8 out.old }
 {
@@ -91,6 +91,17 @@ pub(crate) fn write_header(out: &mut [u8], count: u16, size: u32)
     out[1] = 0;
     BigEndian::write_u16(&mut out[2..], count);
     BigEndian::write_u32(&mut out[4..], size);
+}
+
+/// Writes the header of an entry of so many stored records into the room that is kept for it.
+pub(crate) fn close_entry(out: &mut Vec<u8>, count: u16)
+    requires room { 8 ≤ length out.old.items }
+    requires size { length out.old.items ≤ 1048576 }
+    ensures bytes { out.new.items ≡ header_bytes count (length out.old.items - 8) ++ drop 8 out.old.items }
+    ensures len { length out.new.items ≡ length out.old.items }
+{
+    let size = (out.len() - HEADER) as u32;
+    write_header(out, count, size);
 }
 
 /// Adds a record set.
@@ -153,8 +164,7 @@ pub fn encode_entry(alloc: Global, parts: &[Stored]) -> Result<EntryBytes, NoMem
 {
     let mut out = vec![in alloc; 0; HEADER]?;
     put_records(alloc, &mut out, parts)?;
-    let size = (out.len() - HEADER) as u32;
-    write_header(&mut out, parts.len() as u16, size);
+    close_entry(&mut out, parts.len() as u16);
     EntryBytes::from_vec(out)
 }
 
@@ -165,7 +175,6 @@ pub fn control(alloc: Global, position: u32, txid: TxId) -> Result<EntryBytes, N
 {
     let mut out = vec![in alloc; 0; HEADER]?;
     put_payload(alloc, &mut out, position, 1, txid, &[])?;
-    let size = (out.len() - HEADER) as u32;
-    write_header(&mut out, 1, size);
+    close_entry(&mut out, 1);
     EntryBytes::from_vec(out)
 }

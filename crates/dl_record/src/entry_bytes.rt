@@ -44,6 +44,13 @@ impl EntryBytes {
         Ok(EntryBytes { bytes })
     }
 
+    /// The entry of these bytes, shared as they are.
+    pub fn from_bytes(bytes: Bytes) -> EntryBytes
+        ensures { result ≡ bytes }
+    {
+        EntryBytes { bytes }
+    }
+
     /// Another owner of the same bytes.
     pub fn share(&self) -> Result<EntryBytes, NoMemory>
         ensures { IfOk result (λ e. e ≡ self.now) }

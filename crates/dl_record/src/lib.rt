@@ -1,6 +1,7 @@
 //! The entries of a log segment: stored records as bytes, what is read of them, and the walk over their rows.
 #![tactic(auto)]
 
+pub mod builder;
 mod cursor;
 pub mod decode;
 pub mod encode;
@@ -9,6 +10,7 @@ pub mod entry_fault;
 mod fields;
 mod head;
 mod kind;
+pub mod law;
 pub mod payloads;
 pub mod records;
 pub mod stored;

@@ -8,9 +8,9 @@ returns-in_err-out-clause-entry c = control_entry c.args.position c.args.txid (o
 pub returns-in_err-put_payload-clause-entry : goal.returns-in_err-put_payload-clause-entry
 returns-in_err-put_payload-clause-entry c = control_entry c.args.position c.args.txid (omega arith) (omega arith)
 
-pub overflow_cast-size : goal.overflow_cast-size
-overflow_cast-size c =
-    omega (arith, c.in_ok-out.ensures.len, simp length-append at (ap length c.in_ok-put_payload.ensures.ok), length-fields_and_payload c.args.position 1 c.args.txid [])
-
 pub returns-clause-entry : goal.returns-clause-entry
 returns-clause-entry c = control_entry c.args.position c.args.txid (omega arith) (omega arith)
+
+pub close_entry-requires-clause-size : goal.close_entry-requires-clause-size
+close_entry-requires-clause-size c =
+    omega (arith, c.in_ok-out.ensures.len, simp length-append at (ap length c.in_ok-put_payload.ensures.ok), length-fields_and_payload c.args.position 1 c.args.txid [])
