@@ -1,5 +1,5 @@
 #!/usr/bin/env python3
-"""Prints the tables of crates/dl_record/src/tests.rt: what a reading of the entry layout, written here apart from the
+"""Prints crates/dl_record/src/tests/spoilt.rt: what a reading of the entry layout, written here apart from the
 crate, finds in an entry of three records whose bytes are spoilt one by one."""
 
 MOST_ENTRY, MOST_PAYLOAD = 1_048_576, 1_040_384
@@ -89,13 +89,15 @@ entry = bytes([1, 0]) + field(3, 2) + field(len(body), 4) + body
 
 
 def table(name, outcomes):
-    print(f"static {name}: [(u8, usize); {len(outcomes)}] = [")
+    print(f"pub static {name}: [(u8, usize); {len(outcomes)}] = [")
     for letter, at in outcomes:
         print(f"    (b'{letter}', {at}),")
     print("];\n")
 
 
-print(f"static ENTRY: [u8; {len(entry)}] = [")
+print("//! An entry of three records, and what is found where it is spoilt: a letter for the kind of fault, or O for none, and")
+print("//! its place. Written by scripts/spoilt_entries.py.\n")
+print(f"pub static ENTRY: [u8; {len(entry)}] = [")
 print("    " + ", ".join(str(x) for x in entry) + ",")
 print("];\n")
 table("CHANGED", [outcome(entry[:i] + bytes([entry[i] ^ 1]) + entry[i + 1:]) for i in range(len(entry))])

@@ -109,7 +109,7 @@ head_found alone before bytes at head fits e =
           ∙ ap (λ (l : List ℕ). field w32 (kind_flags b.0) ++ l) (pd.stands ∙ ap (λ (k : ℕ). field w64 k ++ drop (at + 16) bytes) d3.1
           ∙ ap (λ (l : List ℕ). field w64 d.0 ++ l) (pf.stands ∙ ap (λ (k : ℕ). field w32 k ++ drop (at + 20) bytes) f3.1)));
     } in
-    (f.0, subst (λ (h : Head). HeadStands alone before bytes at h f.0) (ok_is made head g.2) whole)
+    (f.0, subst (λ (h : Head). HeadStands alone before bytes at h f.0) {x = made} {y = head} (ok_is made head g.2) whole)
 
 -- What fields that stand there read as.
 pub record HeadReads (alone : Bool) (before : Option Stored) (bytes : List ℕ) (at : ℕ) (head : Head) (rest : List ℕ) : Type 0 where

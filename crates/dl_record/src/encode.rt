@@ -1,5 +1,6 @@
 ghost use Rattle.std.specs.Prelude.{◌≡◌, ◌<◌, ◌≤◌, ◌^◌, ◌++◌, ◌+◌, ◌-◌, length, take, drop, map, OnOk, OnErr, IfOk, All};
 ghost use Rattle.std.specs.List.{flat_map};
+ghost use Rattle.std.specs.Option.{SomeIff};
 ghost use Rattle.std.specs.Int.{w8, w16, w32, w64};
 ghost use Rattle.dl_codec.specs.Fields.{field};
 ghost use Rattle.std.specs.Prelude.{[], ◌∷◌};
@@ -56,16 +57,19 @@ pub(crate) fn put_payload(
     Ok(())
 }
 
-/// How many bytes a record set of these payloads has.
-fn set_size(payloads: &[Payload]) -> usize
-    requires { length (set_bytes payloads.now) ≤ 1040384 }
-    ensures { result ≡ length (set_bytes payloads.now) }
+/// How many bytes the payload of a record set of these members has, or none where they are more than the 1,040,384 that
+/// a stored record may hold.
+pub fn set_size(payloads: &[Payload]) -> Option<u32>
+    ensures { SomeIff result (length (set_bytes payloads.now) ≤ 1040384) (length (set_bytes payloads.now)) }
 {
     let mut size = 4;
     for payload in payloads {
-        size += 4 + payload.len();
+        if payload.len().saturating_add(4) > (1_040_384 - size) as usize {
+            return None;
+        }
+        size += payload.len() as u32 + 4;
     }
-    size
+    Some(size)
 }
 
 /// Adds the members of a record set.
@@ -118,7 +122,10 @@ pub(crate) fn put_set(
     ensures ok { OnOk result (out.new.items ≡ out.old.items ++ fields_and_payload position 4 txid (set_bytes payloads.now)) }
     ensures err { OnErr result (take (length out.old.items) out.new.items ≡ out.old.items) }
 {
-    put_fields(alloc, out, position, 4, txid, set_size(payloads) as u32)?;
+    let Some(size) = set_size(payloads) else {
+        unreachable!();
+    };
+    put_fields(alloc, out, position, 4, txid, size)?;
     put_u8(alloc, out, 0)?;
     put_u8(alloc, out, 0)?;
     put_u16(alloc, out, payloads.len() as u16)?;

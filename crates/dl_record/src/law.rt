@@ -8,5 +8,4 @@ ghost use Rattle.dl_record.specs.Reading.{entry_at};
 pub fn entries_have_one_spelling()
     ensures again { (parts : List Stored) → IsEntry parts → entry_at (entry_bytes parts) ≡ Ok parts }
     ensures one { (a b : List Stored) → IsEntry a → IsEntry b → entry_bytes a ≡ entry_bytes b → a ≡ b }
-{
-}
+{}

@@ -14,5 +14,7 @@ pub mod law;
 pub mod payloads;
 pub mod records;
 pub mod stored;
+#[cfg(test)]
+mod tests;
 pub mod user_row;
 pub mod walk;
