@@ -14,5 +14,7 @@ pub mod quorum;
 pub mod refusal;
 pub mod row;
 pub mod status;
+#[cfg(test)]
+mod tests;
 pub mod txid;
 pub mod word;

@@ -1,0 +1,10 @@
+//! Readers and writers of the fields that every layout of bytes is made of: whole numbers of 8 to 64 bits, the high byte
+//! first.
+#![tactic(auto)]
+
+pub mod law;
+pub mod read;
+pub mod short;
+#[cfg(test)]
+mod tests;
+pub mod write;

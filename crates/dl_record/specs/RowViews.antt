@@ -1,0 +1,7 @@
+-- A user row without where it lies in memory.
+use Rattle.dl_record.specs.declared.user_row.UserRow.{UserRow}
+use Rattle.dl_record.specs.UserRows.{RowOf, row_of}
+
+-- its slot, its transaction id, and the bytes of its payload
+abbrev pub row_view : UserRow → RowOf
+row_view r = row_of r.slot r.txid r.payload.now

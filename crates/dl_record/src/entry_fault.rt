@@ -1,0 +1,68 @@
+ghost use Rattle.std.specs.Prelude.{◌≡◌};
+ghost use Rattle.dl_record.specs.declared.entry_fault.EntryFault.TheVariants.{NoMemory, Short};
+
+use dl_codec::short;
+use std::alloc::{AllocError, AllocFailed};
+use thiserror::Error;
+
+/// Why bytes are no entry: the first fault in the order of the bytes, with the place, from 0, of the first byte of its
+/// field.
+#[derive(Clone, Copy, Debug, PartialEq, Eq, Error)]
+pub enum EntryFault {
+    /// Memory ran out.
+    #[error("no memory")]
+    NoMemory,
+    /// A version, flags or a transaction id that no entry has, or a byte of a record set that is not 0.
+    #[error("bad flags at {at}")]
+    BadFlags { at: usize },
+    /// The entry or a record set is compressed.
+    #[error("compressed at {at}")]
+    Compressed { at: usize },
+    /// The field is cut short, or fewer bytes follow than it says.
+    #[error("cut short at {at}")]
+    Short { at: usize },
+    /// The entry is longer than 1,048,576 bytes, or the length of a record is above 1,040,384.
+    #[error("too long at {at}")]
+    TooLong { at: usize },
+    /// A count of records or members, a position, or the length of a control record that does not fit.
+    #[error("bad count at {at}")]
+    BadCount { at: usize },
+    /// The transaction id is below that of the record before.
+    #[error("transaction id falls at {at}")]
+    TxidBack { at: usize },
+    /// Bytes are left over from this place on.
+    #[error("bytes left over at {at}")]
+    Long { at: usize },
+}
+
+impl From<AllocError> for EntryFault {
+    ghost from_gives = { λ _ fault. fault ≡ NoMemory };
+
+    fn from(_error: AllocError) -> EntryFault {
+        EntryFault::NoMemory
+    }
+}
+
+impl<T: Drop> From<AllocFailed<T>> for EntryFault {
+    ghost from_gives = { λ _ fault. fault ≡ NoMemory };
+
+    fn from(_error: AllocFailed<T>) -> EntryFault {
+        EntryFault::NoMemory
+    }
+}
+
+impl From<dl_types::memory::NoMemory> for EntryFault {
+    ghost from_gives = { λ _ fault. fault ≡ NoMemory };
+
+    fn from(_error: dl_types::memory::NoMemory) -> EntryFault {
+        EntryFault::NoMemory
+    }
+}
+
+impl From<short::Short> for EntryFault {
+    ghost from_gives = { λ short fault. fault ≡ Short short.at };
+
+    fn from(short: short::Short) -> EntryFault {
+        EntryFault::Short { at: short.at }
+    }
+}

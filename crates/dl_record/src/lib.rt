@@ -1,0 +1,20 @@
+//! The entries of a log segment: stored records as bytes, what is read of them, and the walk over their rows.
+#![tactic(auto)]
+
+pub mod builder;
+mod cursor;
+pub mod decode;
+pub mod encode;
+pub mod entry_bytes;
+pub mod entry_fault;
+mod fields;
+mod head;
+mod kind;
+pub mod law;
+pub mod payloads;
+pub mod records;
+pub mod stored;
+#[cfg(test)]
+mod tests;
+pub mod user_row;
+pub mod walk;

@@ -1,0 +1,169 @@
+mod spoilt;
+
+use crate::builder::EntryBuilder;
+use crate::decode::decode_entry;
+use crate::encode::{control, encode_entry, set_size};
+use crate::entry_fault::EntryFault;
+use crate::stored::Stored;
+use crate::walk::RowWalk;
+use dl_types::payload::Payload;
+use dl_types::txid::TxId;
+use spoilt::{ADDED, CHANGED, CUT, CUT_SHORT, ENTRY};
+use std::test::Fail;
+
+/// One record at position 0 with the id 5 and the payload `hi`.
+const FIRST: [u8; 30] = [
+    1, 0, 0, 1, 0, 0, 0, 0x16, 0, 0, 0, 0, 0, 0, 0, 0, 0, 0, 0, 0, 0, 0, 0, 5, 0, 0, 0, 2, 0x68,
+    0x69,
+];
+
+/// The control record behind it.
+const CONTROL: [u8; 28] = [
+    1, 0, 0, 1, 0, 0, 0, 0x14, 0, 0, 0, 1, 0, 0, 0, 1, 0, 0, 0, 0, 0, 0, 0, 5, 0, 0, 0, 0,
+];
+
+/// A letter for the fault that is found, or `O` for none, and its place.
+fn outcome(rt: &HostRuntime, bytes: &[u8]) -> (u8, usize) {
+    match decode_entry(rt.alloc(), bytes) {
+        Ok(_) => (b'O', 0),
+        Err(EntryFault::NoMemory) => (b'M', 0),
+        Err(EntryFault::BadFlags { at }) => (b'F', at),
+        Err(EntryFault::Compressed { at }) => (b'C', at),
+        Err(EntryFault::Short { at }) => (b'S', at),
+        Err(EntryFault::TooLong { at }) => (b'T', at),
+        Err(EntryFault::BadCount { at }) => (b'B', at),
+        Err(EntryFault::TxidBack { at }) => (b'X', at),
+        Err(EntryFault::Long { at }) => (b'L', at),
+    }
+}
+
+#[test]
+fn reads_and_writes_the_first_entry(rt: HostRuntime) -> Result<(), Fail> {
+    let alloc = rt.alloc();
+    let records = decode_entry(alloc, &FIRST)?;
+    match records.as_slice() {
+        [
+            Stored::Plain {
+                position,
+                txid,
+                payload,
+            },
+        ] => {
+            assert_eq!(rt; *position, 0);
+            assert_eq!(rt; txid.number(), 5);
+            assert_eq!(rt; payload.as_slice(), b"hi".as_slice());
+        }
+        _ => assert!(rt; false),
+    }
+    assert_eq!(rt;
+        encode_entry(alloc, records.as_slice())?.as_slice(),
+        FIRST.as_slice()
+    );
+    assert_eq!(rt;
+        control(alloc, 1, TxId::new(5))?.as_slice(),
+        CONTROL.as_slice()
+    );
+    Ok(())
+}
+
+#[test]
+fn finds_the_first_fault(rt: HostRuntime) -> Result<(), Fail> {
+    let alloc = rt.alloc();
+    let mut bytes = FIRST.to_vec(alloc)?;
+    bytes[1] = 1;
+    assert_eq!(rt; outcome(&rt, &bytes), (b'C', 1));
+    assert_eq!(rt; outcome(&rt, &FIRST[..29]), (b'S', 4));
+    let mut bytes = FIRST.to_vec(alloc)?;
+    bytes.push(0)?;
+    assert_eq!(rt; outcome(&rt, &bytes), (b'L', 30));
+    let mut bytes = FIRST.to_vec(alloc)?;
+    bytes[15] = 2;
+    assert_eq!(rt; outcome(&rt, &bytes), (b'F', 12));
+    Ok(())
+}
+
+/// The first bytes of the entry, with this many said to follow the header, and more behind them.
+fn cut(rt: &HostRuntime, len: usize, size: u8, more: &[u8]) -> Result<Vec<u8>, Fail> {
+    let mut bytes = Vec::new(rt.alloc());
+    for byte in ENTRY.iter().take(len) {
+        bytes.push(*byte)?;
+    }
+    bytes.extend_from_slice(more)?;
+    if let Some(byte) = bytes.get_mut(7) {
+        *byte = size;
+    }
+    Ok(bytes)
+}
+
+#[test]
+fn finds_what_is_spoilt(rt: HostRuntime) -> Result<(), Fail> {
+    let mut place = 0usize;
+    for expected in CHANGED.iter() {
+        let mut bytes = ENTRY.to_vec(rt.alloc())?;
+        if let Some(byte) = bytes.get_mut(place) {
+            *byte ^= 1;
+        }
+        assert_eq!(rt; outcome(&rt, &bytes), *expected, "byte {place}");
+        place = place.saturating_add(1);
+    }
+    let mut len = 0usize;
+    for expected in CUT.iter() {
+        let bytes = cut(&rt, len, 78, b"")?;
+        assert_eq!(rt; outcome(&rt, &bytes), *expected, "cut at {len}");
+        len = len.saturating_add(1);
+    }
+    let mut size = 0u8;
+    for expected in CUT_SHORT.iter() {
+        let bytes = cut(&rt, usize::from(size) + 8, size, b"")?;
+        assert_eq!(rt; outcome(&rt, &bytes), *expected, "cut at 8 + {size}");
+        size = size.saturating_add(1);
+    }
+    let mut size = 78u8;
+    for expected in ADDED.iter() {
+        let bytes = cut(&rt, 86, size, b"\0")?;
+        assert_eq!(rt; outcome(&rt, &bytes), *expected, "added with {size}");
+        size = size.saturating_add(1);
+    }
+    Ok(())
+}
+
+#[test]
+fn builds_and_walks(rt: HostRuntime) -> Result<(), Fail> {
+    let alloc = rt.alloc();
+    let mut payloads = Vec::new(alloc);
+    payloads.push(Payload::new(alloc, b"c")?)?;
+    payloads.push(Payload::new(alloc, b"de")?)?;
+    let mut builder = EntryBuilder::new(alloc)?;
+    assert!(rt; builder.fits(2));
+    builder.push(7, TxId::new(5), b"hi")?;
+    let size = set_size(&payloads).ok_or("too long")?;
+    assert_eq!(rt; size, 15);
+    assert!(rt; builder.fits(size));
+    builder.set(8, TxId::new(5), &payloads)?;
+    assert!(rt; builder.fits(1));
+    builder.push(10, TxId::new(6), b"x")?;
+    assert_eq!(rt; builder.rows(), 4);
+    let entry = builder.finish()?;
+    assert_eq!(rt; entry.as_slice(), ENTRY.as_slice());
+    assert_eq!(rt; builder.rows(), 0);
+    Ok(())
+}
+
+#[test]
+fn walks_over_the_rows(rt: HostRuntime) -> Result<(), Fail> {
+    let _records = decode_entry(rt.alloc(), &ENTRY)?;
+    let mut text = Vec::new(rt.alloc());
+    for row in RowWalk::new(&ENTRY) {
+        text.push(row.slot)?;
+        text.push(row.txid.number() as u32)?;
+        for byte in row.payload {
+            text.push(u32::from(*byte))?;
+        }
+    }
+    assert_eq!(rt;
+        text.as_slice(),
+        [0, 5, 104, 105, 1, 5, 99, 2, 5, 100, 101, 3, 6, 120].as_slice()
+    );
+    assert_eq!(rt; RowWalk::new(&ENTRY).count(), 4);
+    Ok(())
+}
