@@ -1,14 +1,26 @@
-//! The values that every layer of the log names: places, transaction ids, rows, names, refusals and statuses.
+//! The values that every layer of the log names: places, transaction ids, rows, names, refusals and statuses, and the
+//! operations on the metadata tree with their answers.
 #![tactic(auto)]
 
+pub mod body;
 pub mod client;
 pub mod dlsn;
 pub mod memory;
+pub mod meta_answer;
+pub mod meta_op;
+pub mod mode;
 pub mod name;
 pub mod name_fault;
+pub mod names;
+pub mod one_answer;
+pub mod one_answers;
+pub mod one_op;
+pub mod one_ops;
+pub mod path;
 pub mod payload;
 pub mod refusal;
 pub mod row;
 pub mod status;
 pub mod txid;
+pub mod why;
 pub mod word;
