@@ -1,5 +1,5 @@
 -- Lists in rising order, and sessions beside their numbers.
-use Rattle.std.proofs.Common.{◌≡◌, ℕ, zero, suc, ◌+◌, ◌<◌, ◌≤◌, Bool, true, false, cond, not, ◌==◌, List, [], ◌∷◌, ◌++◌, length, map, filter, get_or, set, take, drop, Option, Some, None, is_some, Result, Ok, Err, All, refl, sym, ap, ◌∙◌, subst, ap₂, arith, eq-eqb, eqb-true, length-append}
+use Rattle.std.proofs.Common.{◌≡◌, ℕ, zero, suc, ◌+◌, ◌<◌, ◌≤◌, Bool, true, false, cond, not, ◌==◌, List, [], ◌∷◌, ◌++◌, length, map, filter, get_or, set, Option, Some, None, Err, All, refl, sym, ap, ◌∙◌, subst, ap₂, arith, eq-eqb, length-append}
 use Rattle.std.proofs.lemmas.Bool.{ne_eqb, cond-true, cond-false}
 use Rattle.std.specs.List.{remove}
 use Rattle.std.specs.List.Sorted.{IsBinarySearchResult, IsStrictlyIncreasing}
@@ -8,7 +8,7 @@ use Rattle.std.proofs.lemmas.List.Sorted.{searched}
 use Rattle.std.proofs.lemmas.Grind.{get_or_default_zero}
 use Rattle.std.proofs.lemmas.List.Edits.{length-remove}
 use Rattle.dl_session.specs.declared.admit.Admit.TheVariants.{Run}
-use Rattle.dl_session.specs.Sessions.{Known, Live, ids, number_in, with_number, connected, expired, ran, is_live, admits}
+use Rattle.dl_session.specs.Sessions.{Known, Live, ids, number_in, with_number, connected, expired, ran, admits}
 use Rattle.dl_session.specs.Rises.{Rises, beside}
 
 -- each is above the low bound

@@ -1,7 +1,7 @@
 -- What whole runs leave of the sessions.
-use Rattle.std.proofs.Common.{◌≡◌, ℕ, suc, ◌+◌, ◌<◌, ◌≤◌, Bool, true, false, cond, not, ◌==◌, List, [], ◌∷◌, ◌++◌, map, filter, Option, Some, None, is_some, refl, sym, ap, ◌∙◌, subst, arith, eq-eqb, eqb-true, nat_lt, inl, inr, ◌⊎◌}
-use Rattle.std.proofs.lemmas.Bool.{ne_eqb, cond-true, cond-false, cases_eq, true≢false}
-use Rattle.dl_session.specs.declared.admit.Admit.TheVariants.{Expired, Old, Run}
+use Rattle.std.proofs.Common.{◌≡◌, ℕ, ◌+◌, ◌≤◌, Bool, true, false, cond, not, ◌==◌, List, [], ◌∷◌, ◌++◌, map, filter, Option, Some, None, is_some, IsTrue, refl, sym, ap, ◌∙◌, arith, eqb-true}
+use Rattle.std.proofs.lemmas.Bool.{ne_eqb, cond-true, cond-false, true≢false}
+use Rattle.dl_session.specs.declared.admit.Admit.TheVariants.{Old, Run}
 use Rattle.dl_session.specs.Sessions.{Known, Live, connected, expired, ran, is_live, number_in, admits, with_number}
 use Rattle.dl_session.specs.Laws.{Change, Connects, Expires, Runs, change, after}
 
@@ -69,3 +69,8 @@ pub runs : (s : Known) (k n : ℕ) → admits (number_in s.live k) n ≡ Run
     → (number_in (ran s k n).live k ≡ Some n) × ((other : ℕ) → (other ≡ k → ⊥) → number_in (ran s k n).live other ≡ number_in s.live other)
 unfolding ran
 runs s k n e = (number-same s.live k n (found (number_in s.live k) n e), λ other differs. number-other s.live k n other differs)
+
+-- a request that is old has a live session
+pub old_live : (o : Option ℕ) (n : ℕ) → Old ≡ admits o n → IsTrue (is_some o)
+old_live None n e = absurd (cc)
+old_live (Some m) n e = refl

@@ -1,5 +1,5 @@
 -- What holds of sessions over whole runs.
-use Rattle.std.specs.Prelude.{◌≡◌, ℕ, ◌≤◌, ◌<◌, Bool, false, List, [], ◌∷◌, Option, Some}
+use Rattle.std.specs.Prelude.{◌≡◌, ℕ, ◌≤◌, false, List, [], ◌∷◌, Some}
 use Rattle.dl_session.specs.declared.admit.Admit.TheVariants.{Run}
 use Rattle.dl_session.specs.Sessions.{Known, connected, expired, ran, is_live, number_in, admits}
 
