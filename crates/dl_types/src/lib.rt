@@ -1,14 +1,24 @@
-//! The values that every layer of the log names: places, transaction ids, rows, names,
-//! quorums and ensembles, refusals and statuses.
+//! The values that every layer of the log names: places, transaction ids, rows, names, quorums and ensembles, refusals
+//! and statuses, and the operations on the metadata tree with their answers.
 #![tactic(auto)]
 
 pub mod bad_quorum;
+pub mod body;
 pub mod client;
 pub mod dlsn;
 pub mod ensemble;
 pub mod memory;
+pub mod meta_answer;
+pub mod meta_op;
+pub mod mode;
 pub mod name;
 pub mod name_fault;
+pub mod names;
+pub mod one_answer;
+pub mod one_answers;
+pub mod one_op;
+pub mod one_ops;
+pub mod path;
 pub mod payload;
 pub mod quorum;
 pub mod refusal;
@@ -17,4 +27,5 @@ pub mod status;
 #[cfg(test)]
 mod tests;
 pub mod txid;
+pub mod why;
 pub mod word;

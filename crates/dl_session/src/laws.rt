@@ -1,0 +1,11 @@
+ghost use Rattle.dl_session.specs.Laws.{GoneIsGone, RunsOnce};
+
+/// A session that was given and is not live is never live again.
+pub fn gone_is_gone()
+    ensures { GoneIsGone }
+{}
+
+/// A request that runs leaves its number as the last one of its session, and no number of another session changes.
+pub fn runs_once()
+    ensures { RunsOnce }
+{}
