@@ -1,0 +1,5 @@
+pub mod View
+pub mod Device
+pub mod Stops
+pub mod Held
+pub mod Log
