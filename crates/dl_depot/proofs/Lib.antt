@@ -1,1 +1,5 @@
 pub mod Fronts
+pub mod Moments
+pub mod Fuses
+pub mod Steps
+pub mod Kept

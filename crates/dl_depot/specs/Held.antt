@@ -1,5 +1,5 @@
 -- What a depot in memory holds of one file, and what each call makes of it.
-use Rattle.std.specs.Prelude.{◌≡◌, ◌≤◌, ◌+◌, ◌-◌, ◌^◌, ◌++◌, [], ◌∷◌, ◌==◌, ◌||◌, min, take, ℕ, List, Option, Some, None, Bool, true, false, cond, length, Result, Ok, Err}
+use Rattle.std.specs.Prelude.{◌≡◌, ◌≤◌, ◌+◌, ◌-◌, ◌^◌, ◌++◌, [], ◌∷◌, ◌==◌, ◌||◌, min, max, take, ℕ, List, Option, Some, None, Bool, true, false, cond, length, Result, Ok, Err}
 use Rattle.std.specs.declared.alloc.AllocError.{AllocError}
 use Rattle.dl_depot.specs.declared.device_call.DeviceCall.{DeviceCall}
 use Rattle.dl_depot.specs.declared.device_call.DeviceCall.TheVariants.{Write, Cut, Sync}
@@ -46,9 +46,13 @@ refuses h = (h.due == 1) || has_stopped h.fuse
 abbrev pub called : Held → Held
 called h = record h { due = h.due - 1 }
 
+-- one more, up to the greatest u64
+abbrev pub risen : ℕ → ℕ
+risen n = max n (min (n + 1) (2 ^ 64 - 1))
+
 -- a fault has been counted
 abbrev pub faulted : Held → Held
-faulted h = record h { faults = min (h.faults + 1) (2 ^ 64 - 1) }
+faulted h = record h { faults = risen h.faults }
 
 -- how a call ends that this outcome stops
 abbrev pub stop_of : Outcome → End

@@ -3,3 +3,5 @@ pub mod Device
 pub mod Stops
 pub mod Held
 pub mod Log
+pub mod Reads
+pub mod Memory

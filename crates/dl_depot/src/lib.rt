@@ -9,4 +9,5 @@ pub mod file_id;
 pub mod fuse;
 pub mod log;
 pub mod mem_file;
+pub mod memory;
 pub mod stopper;
