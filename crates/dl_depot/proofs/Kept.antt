@@ -212,3 +212,7 @@ module _ (log log_after : List Entry) (files : List Held) (i file : ℕ) (h k : 
   still_kept call bytes (Ok tt) fit s = joined call bytes Passed fit s.joined (ap (λ (x : Held). x.shown) s.here) (ap (λ (x : Held). x.synced) s.here)
   still_kept call bytes (Err e) fit (inl r) = kept_same r.same (ap (λ (x : Held). x.shown) r.here) (ap (λ (x : Held). x.synced) r.here)
   still_kept call bytes (Err e) fit (inr s) = joined call bytes (end_of h.fuse) fit s.joined (ap (λ (x : Held). x.shown) s.here) (ap (λ (x : Held). x.synced) s.here)
+
+  -- where the call begins inside the file
+  pub fits_there : (at : ℕ) → ((bytes : List ℕ) → Some (held_at files file).shown ≡ Some bytes → at ≤ length bytes) → at ≤ length h.shown
+  fits_there at most_shown = let here = most_shown (held file).shown refl in let same = ap (λ (x : Held). length x.shown) was_is in omega (arith, here, same)

@@ -3,3 +3,4 @@ pub mod Moments
 pub mod Fuses
 pub mod Steps
 pub mod Kept
+pub mod Empty

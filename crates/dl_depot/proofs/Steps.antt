@@ -59,28 +59,6 @@ module _ (log : List Entry) (held now : ℕ → Held) (file : ℕ) (others : (f 
   image_still : (t : ℕ) (c : List ℕ) → length log ≤ t → t ≤ length log → (view_of log held).image file t c ↔ (view_of log held).image file (length log) c
   image_still t c from to = let at : t ≡ length log = omega (arith, from, to) in subst (λ (n : ℕ). (view_of log held).image file n c ↔ (view_of log held).image file (length log) c) (sym at) (λ i. i, λ i. i)
 
-  -- it succeeded
-  pub looks : now file ≡ called (held file) → Looks (view_of log held) (view_of log now) file
-  looks here = record {
-    keeps = stays (let same = ap (λ (h : Held). h.faults) here in omega (arith, same));
-    images = λ t c from to. image_still t c from to;
-    same_shown = ap (λ (h : Held). Some h.shown) here;
-    same_synced = ap (λ (h : Held). Some h.synced) here;
-    same_calls = ap (λ (h : Held). Some h.calls) here;
-    same_fuse = ap (λ (h : Held). Some h.fuse) here;
-  }
-
-  -- it failed
-  pub fails_looking : now file ≡ faulted (called (held file)) → Looks (view_of log held) (view_of log now) file
-  fails_looking here = record {
-    keeps = stays (let same = ap (λ (h : Held). h.faults) here in omega (arith, same));
-    images = λ t c from to. image_still t c from to;
-    same_shown = ap (λ (h : Held). Some h.shown) here;
-    same_synced = ap (λ (h : Held). Some h.synced) here;
-    same_calls = ap (λ (h : Held). Some h.calls) here;
-    same_fuse = ap (λ (h : Held). Some h.fuse) here;
-  }
-
   -- a writing call failed before it did anything
   pub fails : now file ≡ faulted (called (held file)) → (call : DeviceCall) (bytes : List ℕ) (e : DeviceFault) → Writes (view_of log held) (view_of log now) file call bytes (Err e)
   fails here call bytes e = record {

@@ -95,6 +95,77 @@ impl Depot for MemDepot {
     }
 }
 
+impl Stopper for MemDepot {
+    ghost use Rattle.std.specs.Prelude.{None};
+    ghost use Rattle.dl_depot.specs.Stops.{FuseSet, Revived};
+    ghost use Rattle.dl_depot.specs.Memory.{view_by, held_by, Sets};
+
+    /// Sets a fuse on the file. The number of the call that is to fail stays.
+    fn fuse(&mut self, file: FileId, calls: u64, outcome: Outcome)
+        ensures { FuseSet (view_by self.old) (view_by self.new) file calls outcome }
+    {
+        let fuse = Fuse {
+            left: calls,
+            outcome,
+            stopped: false,
+        };
+        let held = &mut self.files[file.index()];
+        held.set_fuse(Some(fuse));
+    }
+
+    /// Takes the file's fuse away. The number of the call that is to fail stays.
+    fn revive(&mut self, file: FileId) -> bool
+        ensures { Revived (view_by self.old) (view_by self.new) file result }
+    {
+        let held = &mut self.files[file.index()];
+        let has_stopped = held.has_stopped();
+        held.set_fuse(None);
+        has_stopped
+    }
+}
+
+impl MemDepot {
+    ghost use Rattle.dl_depot.specs.Memory.{IsNew, held_by, Sets};
+
+    /// A depot of empty files, with no call made and no fault.
+    pub fn new(alloc: Global) -> Result<MemDepot, NoMemory>
+        ensures { IfOk result IsNew }
+    {
+        let mut files = Vec::with_capacity(alloc, FileId::COUNT)?;
+        for _ in 0..FileId::COUNT {
+            files.push(MemFile::new(alloc))?;
+        }
+        Ok(MemDepot {
+            alloc,
+            log: Vec::new(alloc),
+            files,
+        })
+    }
+
+    /// How many calls on the file failed, up to the greatest u64.
+    pub fn faults(&self, file: FileId) -> u64
+        ensures { result ≡ (held_by self.now file).faults }
+    {
+        self.files[file.index()].faults()
+    }
+
+    /// Fails the call of that number on the file, counted from 1 from now on, reading calls included; 0 fails none. One
+    /// such number stands for each file, and a second one replaces the first.
+    pub fn fail_once(&mut self, file: FileId, call: u64)
+        ensures { Sets self.old self.new file (record (held_by self.old file) { due = call }) }
+    {
+        let held = &mut self.files[file.index()];
+        held.fail_once(call);
+    }
+
+    /// The writing calls that were made on the file, in order: those that passed and those that a fuse stopped.
+    pub fn calls(&self, file: FileId) -> &[DeviceCall]
+        ensures { result.now ≡ (held_by self.now file).calls }
+    {
+        self.files[file.index()].calls()
+    }
+}
+
 // What there is from a place on, as far as the buffer reaches.
 fn copy_from(bytes: &[u8], at: usize, into: &mut [u8]) -> usize
     ensures { Gives at result bytes.now into.new }
