@@ -1,5 +1,5 @@
 -- The front that the bytes shown and those of the last sync share.
-use Rattle.std.proofs.Common.{◌≡◌, ◌≤◌, ◌+◌, ◌-◌, ◌++◌, ℕ, List, min, take, drop, length, sym, ◌∙◌, ap, arith, length-append, length-take, length-drop}
+use Rattle.std.proofs.Common.{◌≡◌, ◌≤◌, ◌+◌, ◌++◌, ℕ, List, min, take, drop, length, sym, ◌∙◌, ap, arith, length-append, length-take}
 use Rattle.std.proofs.lemmas.List.{take-append-le, take-take}
 use Rattle.dl_depot.specs.Device.{put}
 use Rattle.dl_depot.specs.Held.{Agree}

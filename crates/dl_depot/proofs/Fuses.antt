@@ -1,15 +1,15 @@
 -- What a fuse does with the next writing call.
-use Rattle.std.proofs.Common.{◌≡◌, ◌≢◌, ◌+◌, ◌-◌, ℕ, List, Option, Some, None, Bool, true, false, cond, ◌==◌, ◌||◌, sym, ◌∙◌, ap, subst, refl, arith}
+use Rattle.std.proofs.Common.{◌≡◌, ◌≢◌, ◌+◌, ◌-◌, ℕ, List, Option, Some, Bool, true, false, cond, ◌==◌, ◌||◌, sym, ◌∙◌, ap, refl, arith}
 use Rattle.std.proofs.lemmas.Bool.Decides.{nat_tests}
 use Rattle.dl_depot.specs.declared.device_call.DeviceCall.{DeviceCall}
-use Rattle.dl_depot.specs.declared.device_call.DeviceCall.TheVariants.{Write, Cut, Sync}
+use Rattle.dl_depot.specs.declared.device_call.DeviceCall.TheVariants.{Write, Cut}
 use Rattle.dl_depot.specs.declared.entry.End.{End}
 use Rattle.dl_depot.specs.declared.entry.End.TheVariants.{Passed, StoppedBefore, StoppedAfter}
 use Rattle.dl_depot.specs.declared.fuse.Fuse.{Fuse}
 use Rattle.dl_depot.specs.declared.fuse.Outcome.{Outcome}
 use Rattle.dl_depot.specs.declared.fuse.Outcome.TheVariants.{Before, After}
 use Rattle.dl_depot.specs.Device.{done, left_by}
-use Rattle.dl_depot.specs.Held.{Held, has_stopped, refuses, stop_of, end_by, end_of, burnt, spent, shown_by, synced_by}
+use Rattle.dl_depot.specs.Held.{Held, has_stopped, refuses, stop_of, end_by, burnt, shown_by, synced_by}
 
 -- a call that is not refused is made under a fuse that has stopped none
 pub alive_is : (h : Held) (f : Fuse) → h.fuse ≡ Some f → refuses h ≡ false → f.stopped ≡ false

@@ -1,5 +1,5 @@
 -- A writing call on one of the files of a depot in memory: its rules, and that the log tells what the files hold.
-use Rattle.std.proofs.Common.{◌≡◌, ◌≢◌, ◌⊎◌, inl, inr, ℕ, ◌≤◌, ◌<◌, List, [], ◌∷◌, ◌++◌, reverse, length, set, get_or, Some, Bool, true, false, cond, ◌==◌, ◌&&◌, nat_le, Result, Ok, Err, sym, subst, refl, ◌∙◌, ap, arith, length-append}
+use Rattle.std.proofs.Common.{◌≡◌, ◌≢◌, inl, inr, ℕ, ◌≤◌, ◌<◌, List, [], ◌∷◌, ◌++◌, reverse, length, set, get_or, Some, Bool, true, false, cond, ◌&&◌, Result, Ok, Err, sym, subst, refl, ◌∙◌, ap, arith, length-append}
 use Rattle.std.specs.Bool.{⊤}
 use Rattle.std.proofs.lemmas.Bool.Decides.{nat_tests}
 use Rattle.std.proofs.lemmas.Bool.{cases_eq}
@@ -12,9 +12,8 @@ use Rattle.dl_depot.specs.declared.entry.End.TheVariants.{Passed}
 use Rattle.dl_depot.specs.declared.entry.Entry.{Entry}
 use Rattle.dl_depot.specs.declared.entry.Work.{Work}
 use Rattle.dl_depot.specs.declared.entry.Work.TheVariants
-use Rattle.dl_depot.specs.View.{View}
 use Rattle.dl_depot.specs.Device.{Writes, Wrote, WasCut, Synced}
-use Rattle.dl_depot.specs.Held.{Held, empty_held, called, faulted, end_of, made, shown_by, synced_by}
+use Rattle.dl_depot.specs.Held.{Held, empty_held, end_of, shown_by, synced_by}
 use Rattle.dl_depot.specs.Log.{call_of, bytes_of, after, state_of, Left, fits, is_log, IsLog, held_at, view_of, IsKept, Joined, Works}
 use Rattle.dl_depot.specs.Reads.{log_is}
 use Rattle.dl_depot.proofs.Fuses.{write_keeps, cut_keeps, stop_keeps}

@@ -1,7 +1,7 @@
 -- A call of a depot in memory: what it makes of the meanings.
-use Rattle.std.proofs.Common.{◌≡◌, ◌≢◌, ◌⊎◌, ◌↔◌, inl, inr, ℕ, ◌≤◌, ◌<◌, ◌+◌, ◌-◌, ◌^◌, min, List, [], ◌∷◌, ◌++◌, reverse, take, drop, length, Option, Some, None, Bool, true, false, cond, ◌==◌, Result, Ok, Err, sym, subst, refl, ◌∙◌, ap, arith, length-append, length-take, length-drop}
+use Rattle.std.proofs.Common.{◌≡◌, ◌≢◌, ◌↔◌, inl, inr, ℕ, ◌≤◌, ◌<◌, List, [], ◌∷◌, ◌++◌, reverse, take, length, Option, Some, Bool, true, false, ◌==◌, Ok, Err, sym, subst, refl, ◌∙◌, ap, arith, length-append}
 use Rattle.std.proofs.lemmas.Bool.Decides.{nat_tests}
-use Rattle.std.proofs.lemmas.List.{take-append-le, take_all, take_at, reverse-append}
+use Rattle.std.proofs.lemmas.List.{take-append-le, take_all, reverse-append}
 use Rattle.dl_depot.specs.declared.device_call.DeviceCall.{DeviceCall}
 use Rattle.dl_depot.specs.declared.device_call.DeviceCall.TheVariants.{Write, Cut, Sync}
 use Rattle.dl_depot.specs.declared.device_fault.DeviceFault.{DeviceFault}
@@ -10,12 +10,12 @@ use Rattle.dl_depot.specs.declared.entry.End.TheVariants.{Passed, StoppedBefore,
 use Rattle.dl_depot.specs.declared.entry.Entry.{Entry}
 use Rattle.dl_depot.specs.declared.fuse.Fuse.{Fuse}
 use Rattle.dl_depot.specs.View.{View, Keeps}
-use Rattle.dl_depot.specs.Device.{Step, Writes, Wrote, WasCut, Synced, Looks, Sized, Read, Gives, Rose, Burns, Stops, done, left_by}
-use Rattle.dl_depot.specs.Held.{Held, refuses, called, faulted, end_of, spent, burnt, made, shown_by, synced_by}
-use Rattle.dl_depot.specs.Log.{call_of, bytes_of, after, state_of, Choose, Stepped, Left, ImageOf, IsLog, view_of, Joined, Succeeded, Refused, Stopped, Works}
+use Rattle.dl_depot.specs.Device.{Step, Writes, Stops, done, left_by}
+use Rattle.dl_depot.specs.Held.{Held, refuses, called, faulted, end_of, spent, made, shown_by}
+use Rattle.dl_depot.specs.Log.{call_of, state_of, Choose, Stepped, Left, ImageOf, IsLog, view_of}
 use Rattle.dl_depot.specs.Reads.{step_same, state_left}
 use Rattle.dl_depot.proofs.Moments.{ordered, keeps_refl}
-use Rattle.dl_depot.proofs.Fuses.{alive_is, lets_pass, stops_next, stop_shows, write_keeps, cut_keeps, stop_keeps}
+use Rattle.dl_depot.proofs.Fuses.{alive_is, lets_pass, stops_next, stop_shows}
 
 both : {A B C : Type 0} → A ↔ B → B ↔ C → A ↔ C
 both p q = (λ a. q.0 (p.0 a), λ c. p.1 (q.1 c))

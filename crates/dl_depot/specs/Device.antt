@@ -1,5 +1,5 @@
 -- What each call of a depot does to its file, and what a stop may do between two syncs.
-use Rattle.std.specs.Prelude.{◌≡◌, ◌⊎◌, ◌↔◌, ◌≤◌, ◌+◌, ◌-◌, ◌^◌, ◌++◌, [], ◌∷◌, min, max, take, drop, ℕ, List, Option, Some, None, true, false, length, Result, Ok, Err, OnOk, OnErr, IfOk}
+use Rattle.std.specs.Prelude.{◌≡◌, ◌⊎◌, ◌↔◌, ◌≤◌, ◌+◌, ◌-◌, ◌^◌, ◌++◌, [], ◌∷◌, min, max, take, drop, ℕ, List, Some, None, true, false, length, Result, Ok, Err, OnOk, OnErr, IfOk}
 use Rattle.dl_depot.specs.declared.device_call.DeviceCall.{DeviceCall}
 use Rattle.dl_depot.specs.declared.device_call.DeviceCall.TheVariants.{Write, Cut, Sync}
 use Rattle.dl_depot.specs.declared.device_fault.DeviceFault.{DeviceFault}

@@ -1,5 +1,5 @@
 -- A file in memory as it reads is one of its images, and so are the bytes of its last sync.
-use Rattle.std.specs.Prelude.{◌≡◌, ◌≤◌, ◌+◌, ◌-◌, ◌++◌, [], ◌∷◌, reverse, take, drop, ℕ, List, Some, Bool, true, false, length, ◌==◌, nat_le, ◌&&◌, cond, refl}
+use Rattle.std.specs.Prelude.{◌≡◌, ◌≤◌, ◌+◌, ◌-◌, ◌++◌, [], ◌∷◌, reverse, take, drop, ℕ, List, Some, Bool, true, false, length, ◌==◌, ◌&&◌, cond, refl}
 use Rattle.std.proofs.Common.{suc, zero, sym, ◌∙◌, ap, subst, arith, append_assoc, length-append, length-take, length-drop}
 use Rattle.std.proofs.lemmas.Bool.Decides.{nat_tests}
 use Rattle.std.proofs.lemmas.List.{take_at, drop_at, take_all}
@@ -10,7 +10,6 @@ use Rattle.dl_depot.specs.declared.entry.Work.TheVariants
 use Rattle.dl_depot.specs.declared.entry.End.{End}
 use Rattle.dl_depot.specs.declared.entry.End.TheVariants.{Passed, StoppedBefore, StoppedAfter}
 use Rattle.dl_depot.specs.declared.entry.Entry.{Entry}
-use Rattle.dl_depot.specs.View.{View}
 use Rattle.dl_depot.specs.Device.{Torn, Shortened, put, Step}
 use Rattle.dl_depot.specs.Held.{Held, shown_by, synced_by}
 use Rattle.dl_depot.specs.Log.{call_of, bytes_of, after, state_of, Choose, Left, ImageOf, Fits, IsLog, fits, is_log, held_at, view_of, IsKept}

@@ -11,3 +11,5 @@ pub mod log;
 pub mod mem_file;
 pub mod memory;
 pub mod stopper;
+#[cfg(test)]
+mod tests;

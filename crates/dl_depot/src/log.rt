@@ -11,7 +11,14 @@ use std::alloc::{AllocError, Global};
 
 /// A write to a file in memory, with the log of its depot. It fails where the file refuses the call, a fuse stops it, or
 /// memory runs out.
-pub fn write(alloc: Global, log: &mut Vec<Entry>, held: &mut MemFile, file: FileId, at: u64, bytes: &[u8]) -> Result<(), DeviceFault>
+pub fn write(
+    alloc: Global,
+    log: &mut Vec<Entry>,
+    held: &mut MemFile,
+    file: FileId,
+    at: u64,
+    bytes: &[u8],
+) -> Result<(), DeviceFault>
     requires { at ≤ length held.old.shown }
     ensures { Works file (Write at (length bytes.now)) bytes.now log.old.items log.new.items held.old held.new result }
 {
@@ -24,7 +31,13 @@ pub fn write(alloc: Global, log: &mut Vec<Entry>, held: &mut MemFile, file: File
 }
 
 /// A cut of a file in memory, with the log of its depot. It fails as `write` does.
-pub fn cut(alloc: Global, log: &mut Vec<Entry>, held: &mut MemFile, file: FileId, size: u64) -> Result<(), DeviceFault>
+pub fn cut(
+    alloc: Global,
+    log: &mut Vec<Entry>,
+    held: &mut MemFile,
+    file: FileId,
+    size: u64,
+) -> Result<(), DeviceFault>
     requires { size ≤ length held.old.shown }
     ensures { Works file (Cut size) [] log.old.items log.new.items held.old held.new result }
 {
@@ -37,7 +50,12 @@ pub fn cut(alloc: Global, log: &mut Vec<Entry>, held: &mut MemFile, file: FileId
 }
 
 /// A sync of a file in memory, with the log of its depot. It fails as `write` does.
-pub fn sync(alloc: Global, log: &mut Vec<Entry>, held: &mut MemFile, file: FileId) -> Result<(), DeviceFault>
+pub fn sync(
+    alloc: Global,
+    log: &mut Vec<Entry>,
+    held: &mut MemFile,
+    file: FileId,
+) -> Result<(), DeviceFault>
     ensures { Works file Sync [] log.old.items log.new.items held.old held.new result }
 {
     if held.refuses() {
@@ -48,7 +66,14 @@ pub fn sync(alloc: Global, log: &mut Vec<Entry>, held: &mut MemFile, file: FileI
     held.settle(tried)
 }
 
-fn try_write(alloc: Global, log: &mut Vec<Entry>, held: &mut MemFile, file: FileId, at: u64, bytes: &[u8]) -> Result<End, AllocError>
+fn try_write(
+    alloc: Global,
+    log: &mut Vec<Entry>,
+    held: &mut MemFile,
+    file: FileId,
+    at: u64,
+    bytes: &[u8],
+) -> Result<End, AllocError>
     requires { at ≤ length held.old.shown }
     ensures { Tries file (Write at (length bytes.now)) bytes.now log.old.items log.new.items held.old held.new result }
 {
@@ -74,7 +99,13 @@ fn try_write(alloc: Global, log: &mut Vec<Entry>, held: &mut MemFile, file: File
     Ok(end)
 }
 
-fn try_cut(alloc: Global, log: &mut Vec<Entry>, held: &mut MemFile, file: FileId, size: u64) -> Result<End, AllocError>
+fn try_cut(
+    alloc: Global,
+    log: &mut Vec<Entry>,
+    held: &mut MemFile,
+    file: FileId,
+    size: u64,
+) -> Result<End, AllocError>
     requires { size ≤ length held.old.shown }
     ensures { Tries file (Cut size) [] log.old.items log.new.items held.old held.new result }
 {
@@ -93,7 +124,12 @@ fn try_cut(alloc: Global, log: &mut Vec<Entry>, held: &mut MemFile, file: FileId
     Ok(end)
 }
 
-fn try_sync(alloc: Global, log: &mut Vec<Entry>, held: &mut MemFile, file: FileId) -> Result<End, AllocError>
+fn try_sync(
+    alloc: Global,
+    log: &mut Vec<Entry>,
+    held: &mut MemFile,
+    file: FileId,
+) -> Result<End, AllocError>
     ensures { Tries file Sync [] log.old.items log.new.items held.old held.new result }
 {
     let end = held.next_end();

@@ -1,4 +1,4 @@
-use Rattle.std.proofs.Common.{◌≡◌, [], List, length, subst, sym, arith}
+use Rattle.std.proofs.Common.{List, subst, sym, arith}
 use Rattle.dl_depot.specs.declared.entry.Entry.{Entry}
 use Rattle.dl_depot.specs.Log.{IsKept}
 use Rattle.dl_depot.proofs.Empty.{new_kept}
