@@ -1,0 +1,15 @@
+//! Files that a stop may tear: the trait `Depot` with its meanings, and a depot in memory that tells them all.
+#![tactic(auto)]
+
+pub mod depot;
+pub mod device_call;
+pub mod device_fault;
+pub mod entry;
+pub mod file_id;
+pub mod fuse;
+pub mod log;
+pub mod mem_file;
+pub mod memory;
+pub mod stopper;
+#[cfg(test)]
+mod tests;
