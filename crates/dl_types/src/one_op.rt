@@ -7,15 +7,33 @@ use crate::path::Path;
 #[derive(Clone, Debug, Drop)]
 pub enum OneOp {
     /// Make a node.
-    Create { path: Path, bytes: Body, mode: Mode },
+    Create {
+        path: Path,
+        bytes: Body,
+        mode: Mode,
+    },
     /// Delete a node that has no children.
-    Delete { path: Path, version: Option<u64> },
+    Delete {
+        path: Path,
+        version: Option<u64>,
+    },
     /// Give a node new bytes.
-    Set { path: Path, bytes: Body, version: Option<u64> },
+    Set {
+        path: Path,
+        bytes: Body,
+        version: Option<u64>,
+    },
     /// See that a node is there.
-    Check { path: Path, version: Option<u64> },
+    Check {
+        path: Path,
+        version: Option<u64>,
+    },
     /// Read a node's bytes.
-    Get { path: Path },
+    Get {
+        path: Path,
+    },
     /// List the names of a node's children.
-    Children { path: Path },
+    Children {
+        path: Path,
+    },
 }
