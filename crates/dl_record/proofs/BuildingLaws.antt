@@ -1,5 +1,5 @@
 -- An entry under way is the encoding of what was pushed.
-use Rattle.std.proofs.Common.{◌≡◌, ℕ, zero, suc, ◌-◌, ◌+◌, ◌*◌, ◌≤◌, ◌<◌, Bool, true, false, cond, eqb, leb, Option, Some, None, List, [], ◌∷◌, ◌++◌, length, drop, Result, Ok, Err, refl, sym, ap, subst, ◌∙◌, append_assoc, arith, length-append}
+use Rattle.std.proofs.Common.{◌≡◌, ℕ, ◌-◌, ◌+◌, ◌*◌, ◌≤◌, ◌<◌, Bool, true, false, eqb, leb, Option, Some, None, List, [], ◌∷◌, ◌++◌, length, drop, Result, Ok, Err, refl, sym, ap, subst, ◌∙◌, append_assoc, arith, length-append}
 use Rattle.std.specs.Prelude.{is_ok, IsTrue, ◌↔◌}
 use Rattle.std.specs.List.{flat_map}
 use Rattle.std.proofs.lemmas.List.{append-nil, length-drop, drop-append-le, nil_from_length}
@@ -13,9 +13,9 @@ use Rattle.dl_record.specs.Grammar.{payload_bytes, record_bytes, header_bytes, e
 use Rattle.dl_record.specs.Reading.{records_at}
 use Rattle.dl_record.specs.Rows.{numbered, rows_from, row_count}
 use Rattle.dl_record.specs.Building.{last_of, MayFollow, or_nothing, parts_in, IsBuilding}
-use Rattle.dl_record.proofs.Sizes.{length-record_bytes, length-header_bytes, length-entry_bytes, count_le}
+use Rattle.dl_record.proofs.Sizes.{length-record_bytes, length-entry_bytes, count_le}
 use Rattle.dl_record.proofs.Steps.{IsBytes-drop}
-use Rattle.dl_record.proofs.RecordLaws.{RecordsFound, records_found, records_again}
+use Rattle.dl_record.proofs.RecordLaws.{records_found, records_again}
 use Rattle.dl_record.proofs.WalkLaws.{length-numbered, rows_le}
 
 was_read : (r : Result (List Stored) EntryFault) → is_ok r ≡ true → r ≡ Ok (or_nothing r)

@@ -1,9 +1,9 @@
 -- Entries: what is read is in the grammar, and what is in the grammar is read.
-use Rattle.std.proofs.Common.{◌≡◌, ℕ, ◌-◌, ◌+◌, ◌≤◌, ◌<◌, ◌^◌, Bool, true, false, cond, eqb, leb, ltb, not, Option, None, List, [], ◌∷◌, ◌++◌, length, drop, Result, Ok, Err, refl, sym, ap, subst, ◌∙◌, append_assoc, arith, length-append}
+use Rattle.std.proofs.Common.{◌≡◌, ℕ, ◌+◌, ◌<◌, true, false, cond, eqb, leb, ltb, not, None, List, ◌++◌, length, drop, Result, Ok, Err, refl, sym, ap, subst, ◌∙◌, append_assoc, arith, length-append}
 use Rattle.std.specs.Prelude.{IfOk, IfErr}
 use Rattle.std.specs.List.{flat_map}
 use Rattle.std.specs.Int.{w8, w16, w32}
-use Rattle.std.proofs.lemmas.Bool.{eqb-true, leb-true, le-leb, ltb-false, le-ltb, ne_eqb}
+use Rattle.std.proofs.lemmas.Bool.{eqb-true, leb-true, le-leb, ltb-false, le-ltb}
 use Rattle.std.proofs.lemmas.Bool.Decides.{nat_tests}
 use Rattle.dl_codec.specs.Fields.{field, IsBytes}
 use Rattle.dl_codec.proofs.FieldLaws.{width_8, width_16, width_32}
@@ -13,8 +13,8 @@ use Rattle.dl_record.specs.declared.stored.Stored.{Stored}
 use Rattle.dl_record.specs.Grammar.{header_bytes, record_bytes, entry_bytes, AreRecords, IsEntry, IsEntryBytes}
 use Rattle.dl_record.specs.Reading.{◌>>=◌, allowed, field_at, version_at, codec_at, count_at, size_at, header_at, records_at, entry_at, Gives, Refuses}
 use Rattle.dl_record.proofs.Sizes.{length-header_bytes, length-entry_bytes, count_fits}
-use Rattle.dl_record.proofs.Steps.{bind_ok, ok_is, chosen, allowed_ok, checked_ok, Field, field_found, FieldReads, field_again}
-use Rattle.dl_record.proofs.RecordLaws.{RecordsFound, records_found, records_again}
+use Rattle.dl_record.proofs.Steps.{bind_ok, ok_is, chosen, allowed_ok, checked_ok, field_found, field_again}
+use Rattle.dl_record.proofs.RecordLaws.{records_found, records_again}
 
 pub header_bytes-append : (count size : ℕ) (rest : List ℕ) → header_bytes count size ++ rest ≡ field w8 1 ++ (field w8 0 ++ (field w16 count ++ (field w32 size ++ rest)))
 unfolding header_bytes

@@ -1,7 +1,7 @@
 -- The fields of a stored record: what is read stands there, and what stands there is read.
-use Rattle.std.proofs.Common.{◌≡◌, ℕ, ◌-◌, ◌+◌, ◌≤◌, ◌<◌, ◌^◌, Bool, true, false, cond, eqb, leb, ltb, ◌&&◌, Option, Some, None, List, [], ◌∷◌, ◌++◌, length, take, drop, Result, Ok, Err, refl, sym, ap, subst, ◌∙◌, arith}
+use Rattle.std.proofs.Common.{◌≡◌, ℕ, ◌-◌, ◌+◌, ◌≤◌, ◌<◌, ◌^◌, Bool, true, false, cond, eqb, ltb, ◌&&◌, Option, List, ◌++◌, length, drop, Result, Ok, Err, refl, sym, ap, subst, ◌∙◌, arith}
 use Rattle.std.specs.Int.{w32, w64}
-use Rattle.std.proofs.lemmas.Bool.{eqb-true, eq-eqb, leb-true, le-leb, ltb-false, le-ltb}
+use Rattle.std.proofs.lemmas.Bool.{eqb-true, ltb-false, le-ltb}
 use Rattle.std.proofs.lemmas.Bool.Decides.{nat_tests}
 use Rattle.std.proofs.lemmas.List.{length-drop}
 use Rattle.dl_codec.specs.Fields.{field, IsBytes}
@@ -13,7 +13,7 @@ use Rattle.dl_record.specs.declared.kind.Kind.TheVariants as kinds
 use Rattle.dl_record.specs.declared.kind.Head.{Head}
 use Rattle.dl_record.specs.declared.stored.Stored.{Stored}
 use Rattle.dl_record.specs.Reading.{◌>>=◌, allowed, field_at, end_at, may_stand, may_bear, kind_of, may_hold, position_at, kind_at, txid_at, length_at, head_at}
-use Rattle.dl_record.proofs.Steps.{bind_ok, ok_is, chosen, allowed_ok, checked_ok, Field, field_found, FieldReads, field_again, end_found, end_again}
+use Rattle.dl_record.proofs.Steps.{bind_ok, ok_is, chosen, allowed_ok, checked_ok, field_found, field_again, end_found, end_again}
 
 -- the flags of a kind
 abbrev pub kind_flags : Kind → ℕ

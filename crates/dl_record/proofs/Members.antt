@@ -1,9 +1,9 @@
 -- Record sets: what is read is spelt so, and what is spelt so is read.
-use Rattle.std.proofs.Common.{◌≡◌, ℕ, zero, suc, ◌-◌, ◌+◌, ◌≤◌, ◌<◌, ◌^◌, Bool, true, false, cond, eqb, leb, ◌&&◌, List, [], ◌∷◌, ◌++◌, length, take, drop, Result, Ok, Err, refl, sym, ap, subst, ◌∙◌, append_assoc, arith, length-append}
+use Rattle.std.proofs.Common.{◌≡◌, ℕ, zero, suc, ◌-◌, ◌+◌, ◌≤◌, ◌<◌, ◌^◌, Bool, true, false, cond, eqb, leb, ◌&&◌, List, [], ◌∷◌, ◌++◌, length, drop, Result, Ok, Err, refl, sym, ap, subst, ◌∙◌, append_assoc, arith, length-append}
 use Rattle.std.specs.Prelude.{slice_range}
-use Rattle.std.specs.List.{flat_map, AllByRecursion}
-use Rattle.std.specs.Int.{Width, w8, w16, w32, byte_len}
-use Rattle.std.proofs.lemmas.Bool.{eqb-true, eq-eqb, leb-true, le-leb}
+use Rattle.std.specs.List.{flat_map}
+use Rattle.std.specs.Int.{w8, w16, w32}
+use Rattle.std.proofs.lemmas.Bool.{eqb-true, eq-eqb}
 use Rattle.std.proofs.lemmas.Bool.Decides.{nat_tests}
 use Rattle.std.proofs.lemmas.List.{drop_all, length-drop}
 use Rattle.dl_codec.specs.Fields.{field, IsBytes}
@@ -11,9 +11,9 @@ use Rattle.dl_codec.proofs.FieldLaws.{width_8, width_16, width_32}
 use Rattle.dl_record.specs.declared.entry_fault.EntryFault.{EntryFault}
 use Rattle.dl_record.specs.declared.entry_fault.EntryFault.TheVariants.{BadFlags, Compressed, BadCount, Long}
 use Rattle.dl_record.specs.Grammar.{member_bytes, set_bytes}
-use Rattle.dl_record.specs.Reading.{◌>>=◌, field_at, end_at, allowed, codec_at, zero_at, members_count_at, member_end_at, members_at, set_at}
+use Rattle.dl_record.specs.Reading.{◌>>=◌, field_at, end_at, codec_at, zero_at, members_count_at, member_end_at, members_at, set_at}
 use Rattle.dl_record.proofs.MemberSizes.{length-member_bytes, length-set_bytes}
-use Rattle.dl_record.proofs.Steps.{bind_ok, ok_is, allowed_ok, checked_ok, Field, field_found, FieldReads, field_again, Part, part_found, PartReads, part_again, end_found, end_again}
+use Rattle.dl_record.proofs.Steps.{bind_ok, ok_is, checked_ok, field_found, field_again, part_found, part_again, end_found, end_again}
 
 -- ---- one member
 

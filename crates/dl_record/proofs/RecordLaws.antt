@@ -1,24 +1,22 @@
 -- Stored records: what is read is spelt so, and what is spelt so is read.
-use Rattle.std.proofs.Common.{◌≡◌, ℕ, zero, suc, ◌-◌, ◌+◌, ◌≤◌, ◌<◌, ◌^◌, Bool, true, false, cond, eqb, leb, Option, Some, None, List, [], ◌∷◌, ◌++◌, length, take, drop, Result, Ok, Err, refl, sym, ap, subst, ◌∙◌, append_assoc, arith, length-append}
+use Rattle.std.proofs.Common.{◌≡◌, ℕ, zero, suc, ◌-◌, ◌+◌, ◌≤◌, ◌<◌, ◌^◌, Bool, true, Option, Some, None, List, [], ◌∷◌, ◌++◌, length, take, drop, Ok, refl, sym, ap, subst, ◌∙◌, append_assoc, arith, length-append}
 use Rattle.std.specs.Prelude.{slice_range}
 use Rattle.std.specs.List.{flat_map}
 use Rattle.std.specs.Int.{w32, w64}
 use Rattle.std.proofs.lemmas.Bool.{eqb-true, eq-eqb, leb-true, le-leb}
-use Rattle.std.proofs.lemmas.List.{drop_all, length-drop, length-take}
+use Rattle.std.proofs.lemmas.List.{drop_all, length-drop}
 use Rattle.std.proofs.lemmas.Slice.{between_is}
 use Rattle.dl_codec.specs.Fields.{field, IsBytes}
-use Rattle.dl_record.specs.declared.entry_fault.EntryFault.{EntryFault}
 use Rattle.dl_record.specs.declared.kind.Kind.{Kind}
 use Rattle.dl_record.specs.declared.kind.Kind.TheVariants as kinds
-use Rattle.dl_record.specs.declared.kind.Head.{Head}
 use Rattle.dl_record.specs.declared.stored.Stored.{Stored}
 use Rattle.dl_record.specs.declared.stored.Stored.TheVariants.{Plain, Control, Set}
-use Rattle.dl_record.specs.Stored.{position_of, txid_of, rows_in}
-use Rattle.dl_record.specs.Grammar.{set_bytes, payload_bytes, flags_of, fields_and_payload, record_bytes, IsMembers, IsRecord, IsAllowed, IsNext, Follows, AreRecords}
+use Rattle.dl_record.specs.Stored.{position_of, txid_of}
+use Rattle.dl_record.specs.Grammar.{payload_bytes, flags_of, fields_and_payload, record_bytes, IsMembers, IsRecord, IsAllowed, Follows, AreRecords}
 use Rattle.dl_record.specs.Reading.{◌>>=◌, may_stand, may_bear, may_hold, head_at, set_at, stored_at, content_at, record_at, records_at}
-use Rattle.dl_record.proofs.Steps.{IsBytes-take, bind_ok, ok_is, Part, part_found, PartReads, part_again}
-use Rattle.dl_record.proofs.Members.{SetFound, set_found, set_again, ends_there}
-use Rattle.dl_record.proofs.Heads.{kind_flags, FitsKind, HeadStands, head_found, HeadReads, head_again}
+use Rattle.dl_record.proofs.Steps.{IsBytes-take, bind_ok, ok_is, part_found, part_again}
+use Rattle.dl_record.proofs.Members.{set_found, set_again, ends_there}
+use Rattle.dl_record.proofs.Heads.{kind_flags, FitsKind, head_found, head_again}
 
 -- ---- the payload
 

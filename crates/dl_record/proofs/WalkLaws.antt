@@ -1,29 +1,27 @@
 -- A walk gives the user rows of an entry.
-use Rattle.std.proofs.Common.{◌≡◌, ℕ, zero, suc, ◌-◌, ◌+◌, ◌≤◌, ◌<◌, ◌^◌, Bool, true, false, cond, eqb, leb, ◌&&◌, Option, Some, None, List, [], ◌∷◌, ◌++◌, length, take, drop, Result, Ok, Err, refl, sym, ap, subst, ◌∙◌, append_assoc, arith, length-append}
-use Rattle.std.specs.Prelude.{slice_range}
+use Rattle.std.proofs.Common.{◌≡◌, ℕ, suc, ◌+◌, ◌≤◌, ◌<◌, ◌^◌, Bool, true, eqb, leb, ◌&&◌, Option, Some, None, List, [], ◌∷◌, ◌++◌, length, drop, Ok, refl, sym, ap, subst, ◌∙◌, append_assoc, arith, length-append}
 use Rattle.std.specs.List.{flat_map}
 use Rattle.std.specs.Int.{w8, w16, w32, w64}
 use Rattle.std.proofs.lemmas.Bool.{eqb-true}
 use Rattle.std.proofs.lemmas.Bool.Decides.{nat_tests}
-use Rattle.dl_codec.specs.Fields.{field, IsBytes}
+use Rattle.dl_codec.specs.Fields.{field}
 use Rattle.dl_codec.proofs.FieldLaws.{width_8, width_16, width_32}
 use Rattle.dl_record.specs.declared.kind.Kind.{Kind}
 use Rattle.dl_record.specs.declared.kind.Kind.TheVariants as kinds
-use Rattle.dl_record.specs.declared.kind.Head.{Head}
 use Rattle.dl_record.specs.declared.cursor.Cursor.{Cursor}
 use Rattle.dl_record.specs.Walks.{rows_left, IsWalk}
 use Rattle.dl_record.specs.declared.stored.Stored.{Stored}
 use Rattle.dl_record.specs.declared.stored.Stored.TheVariants.{Plain, Control, Set}
 use Rattle.dl_record.specs.Stored.{position_of, txid_of, payloads_of, rows_in}
-use Rattle.dl_record.specs.Grammar.{member_bytes, set_bytes, payload_bytes, flags_of, record_bytes, header_bytes, entry_bytes, IsMembers, IsRecord, IsAllowed, AreRecords, IsEntry, IsEntryBytes}
-use Rattle.dl_record.specs.Reading.{◌>>=◌, field_at, head_at, members_count_at, member_end_at}
-use Rattle.dl_record.specs.UserRows.{RowOf, row_of}
-use Rattle.dl_record.specs.Rows.{numbered, rows_from, user_rows, row_count, or_none, members_walk, kind_walk, records_walk}
+use Rattle.dl_record.specs.Grammar.{member_bytes, set_bytes, payload_bytes, flags_of, record_bytes, entry_bytes, IsMembers, IsAllowed, AreRecords, IsEntry}
+use Rattle.dl_record.specs.Reading.{field_at, members_count_at}
+use Rattle.dl_record.specs.UserRows.{RowOf}
+use Rattle.dl_record.specs.Rows.{numbered, rows_from, user_rows, members_walk, kind_walk, records_walk}
 use Rattle.dl_record.proofs.MemberSizes.{length-member_bytes, length-set_bytes}
 use Rattle.dl_record.proofs.Sizes.{length-record_bytes, length-entry_bytes, count_fits}
-use Rattle.dl_record.proofs.Steps.{FieldReads, field_again, PartReads, part_again}
-use Rattle.dl_record.proofs.Members.{MemberReads, member_again}
-use Rattle.dl_record.proofs.Heads.{kind_flags, FitsKind, HeadReads, head_again}
+use Rattle.dl_record.proofs.Steps.{field_again, part_again}
+use Rattle.dl_record.proofs.Members.{member_again}
+use Rattle.dl_record.proofs.Heads.{kind_flags, FitsKind, head_again}
 use Rattle.dl_record.proofs.RecordLaws.{kind_in, kind_flags-kind_in, kind_holds, fields_and_payload-append}
 use Rattle.dl_record.proofs.Entries.{header_bytes-append}
 

@@ -1,5 +1,5 @@
 -- Entries under way.
-use Rattle.std.specs.Prelude.{◌≡◌, ℕ, ◌+◌, ◌≤◌, Bool, true, false, Option, Some, None, Result, Ok, Err, is_ok, List, [], ◌∷◌, length, drop}
+use Rattle.std.specs.Prelude.{◌≡◌, ℕ, ◌+◌, ◌≤◌, true, false, Option, Some, None, Result, Ok, Err, is_ok, List, [], ◌∷◌, length, drop}
 use Rattle.std.specs.List.{flat_map}
 use Rattle.dl_record.specs.declared.entry_fault.EntryFault.{EntryFault}
 use Rattle.dl_record.specs.declared.stored.Stored.{Stored}

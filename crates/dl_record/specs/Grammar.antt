@@ -5,7 +5,7 @@ use Rattle.std.specs.Int.{w8, w16, w32, w64}
 use Rattle.dl_codec.specs.Fields.{field}
 use Rattle.dl_record.specs.declared.stored.Stored.{Stored}
 use Rattle.dl_record.specs.declared.stored.Stored.TheVariants.{Plain, Control, Set}
-use Rattle.dl_record.specs.Stored.{position_of, txid_of, payloads_of, rows_in}
+use Rattle.dl_record.specs.Stored.{position_of, txid_of, rows_in}
 
 -- a member of a record set: how many bytes it has, and these bytes
 abbrev pub member_bytes : List ℕ → List ℕ

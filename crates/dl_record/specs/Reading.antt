@@ -1,5 +1,5 @@
 -- Reading an entry in the order of its bytes, up to the first fault.
-use Rattle.std.specs.Prelude.{◌≡◌, ℕ, zero, suc, ◌+◌, Bool, true, false, ◌==◌, nat_le, nat_lt, ◌&&◌, not, Option, Some, None, Result, Ok, Err, List, [], ◌∷◌, length, take, slice_range, if◌then◌else◌}
+use Rattle.std.specs.Prelude.{◌≡◌, ℕ, zero, suc, ◌+◌, Bool, true, ◌==◌, nat_le, nat_lt, ◌&&◌, not, Option, Some, None, Result, Ok, Err, List, [], ◌∷◌, length, take, slice_range, if◌then◌else◌}
 use Rattle.std.specs.Int.{Width, w8, w16, w32, w64}
 use Rattle.dl_codec.specs.declared.short.Short as codec
 use Rattle.dl_codec.specs.Fields.{number_at}

@@ -1,9 +1,8 @@
 -- The user rows of an entry, and what a walk over its bytes has left of them.
-use Rattle.std.specs.Prelude.{ℕ, zero, suc, ◌+◌, ◌≤◌, Option, None, Result, Ok, Err, List, [], ◌∷◌, ◌++◌, length, slice_range, true}
+use Rattle.std.specs.Prelude.{ℕ, zero, suc, ◌+◌, None, Result, Ok, Err, List, [], ◌∷◌, ◌++◌, length, slice_range, true}
 use Rattle.dl_record.specs.declared.entry_fault.EntryFault.{EntryFault}
 use Rattle.dl_record.specs.declared.kind.Kind.{Kind}
 use Rattle.dl_record.specs.declared.kind.Kind.TheVariants as kinds
-use Rattle.dl_record.specs.declared.kind.Head.{Head}
 use Rattle.dl_record.specs.declared.stored.Stored.{Stored}
 use Rattle.dl_record.specs.Stored.{txid_of, payloads_of, rows_in}
 use Rattle.dl_record.specs.Reading.{head_at, members_count_at, member_end_at}

@@ -114,7 +114,7 @@ fn finds_what_is_spoilt(rt: HostRuntime) -> Result<(), Fail> {
     }
     let mut size = 0u8;
     for expected in CUT_SHORT.iter() {
-        let bytes = cut(&rt, usize::from(size) + 8, size, b"")?;
+        let bytes = cut(&rt, usize::from(size).saturating_add(8), size, b"")?;
         assert_eq!(rt; outcome(&rt, &bytes), *expected, "cut at 8 + {size}");
         size = size.saturating_add(1);
     }
@@ -154,10 +154,10 @@ fn walks_over_the_rows(rt: HostRuntime) -> Result<(), Fail> {
     let _records = decode_entry(rt.alloc(), &ENTRY)?;
     let mut text = Vec::new(rt.alloc());
     for row in RowWalk::new(&ENTRY) {
-        text.push(row.slot)?;
-        text.push(row.txid.number() as u32)?;
+        text.push(u64::from(row.slot))?;
+        text.push(row.txid.number())?;
         for byte in row.payload {
-            text.push(u32::from(*byte))?;
+            text.push(u64::from(*byte))?;
         }
     }
     assert_eq!(rt;

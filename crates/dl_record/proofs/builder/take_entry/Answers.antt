@@ -1,4 +1,4 @@
-use Rattle.std.proofs.Common.{ap, drop, length, ◌-◌, ◌∙◌, Vec, ℕ, List}
+use Rattle.std.proofs.Common.{ap, drop, length, ◌-◌, ◌∙◌}
 use Rattle.std.proofs.lemmas.List.{drop_at}
 use Rattle.dl_record.specs.Grammar.{header_bytes}
 use Rattle.dl_record.proofs.Sizes.{length-header_bytes}

@@ -1,4 +1,4 @@
-use Rattle.std.proofs.Common.{◌≡◌, ◌-◌, ◌≤◌, length}
+use Rattle.std.proofs.Common.{◌≡◌, ◌-◌}
 use Rattle.dl_record.specs.Reading.{members_at}
 use Rattle.dl_record.proofs.Loop.{with_front}
 use Rattle.dl_record.proofs.decode.members_of.Given as goal

@@ -1,4 +1,4 @@
-use Rattle.std.proofs.Common.{◌≡◌, Ok, sym, ap, ◌∙◌}
+use Rattle.std.proofs.Common.{sym, ap, ◌∙◌}
 use Rattle.dl_record.specs.Reading.{entry_at}
 use Rattle.dl_record.proofs.Steps.{ok_is}
 use Rattle.dl_record.proofs.Entries.{entry_again}

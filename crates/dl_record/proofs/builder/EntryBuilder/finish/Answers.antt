@@ -2,7 +2,7 @@ use Rattle.std.proofs.Common.{◌<◌, ap, sym, subst, ◌∙◌, List}
 use Rattle.dl_record.specs.declared.stored.Stored.{Stored}
 use Rattle.dl_record.specs.Grammar.{entry_bytes, IsEntry}
 use Rattle.dl_record.specs.Rows.{row_count}
-use Rattle.dl_record.proofs.BuildingLaws.{building_empty, building_same, building_finish}
+use Rattle.dl_record.proofs.BuildingLaws.{building_empty, building_finish}
 use Rattle.dl_record.proofs.builder.EntryBuilder.finish.Goals as goal
 
 pub returns-in_err-entry-clause-entry : goal.returns-in_err-entry-clause-entry

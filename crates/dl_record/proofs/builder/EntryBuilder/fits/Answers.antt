@@ -1,5 +1,4 @@
 use Rattle.std.proofs.Common.{arith}
-use Rattle.std.proofs.lemmas.Bool.{leb-true, le-leb}
 use Rattle.dl_record.proofs.BuildingLaws.{fits_room}
 use Rattle.dl_record.proofs.builder.EntryBuilder.fits.Goals as goal
 

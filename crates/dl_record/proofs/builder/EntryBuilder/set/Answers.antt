@@ -1,6 +1,6 @@
-use Rattle.std.proofs.Common.{arith, refl, sym, subst, ap, ◌∙◌, ◌++◌, ◌∷◌, [], List}
+use Rattle.std.proofs.Common.{arith, sym, subst, ap, ◌∙◌, ◌++◌, ◌∷◌, [], List}
 use Rattle.dl_record.specs.declared.stored.Stored.{Stored}
-use Rattle.dl_record.specs.declared.stored.Stored.TheVariants.{Plain, Set}
+use Rattle.dl_record.specs.declared.stored.Stored.TheVariants.{Set}
 use Rattle.dl_record.specs.Building.{MayFollow}
 use Rattle.dl_record.proofs.BuildingLaws.{holds, building_push}
 use Rattle.dl_record.proofs.builder.EntryBuilder.set.Goals as goal
