@@ -1,5 +1,5 @@
 -- Transcripts piece by piece.
-use Rattle.std.proofs.Common.{◌≡◌, ℕ, ◌≤◌, Bool, true, false, cond, ◌&&◌, nat_le, List, [], ◌∷◌, ◌++◌, map, Option, Some, None, refl, sym, ap, ◌∙◌, subst, arith, le-leb, le_refl}
+use Rattle.std.proofs.Common.{◌≡◌, ℕ, ◌≤◌, Bool, true, false, cond, ◌&&◌, nat_le, List, [], ◌∷◌, ◌++◌, map, Some, None, refl, ap, ◌∙◌, le-leb, le_refl}
 use Rattle.std.proofs.lemmas.Bool.{and_from}
 use Rattle.dl_transcript.specs.declared.event.Event.{Event}
 use Rattle.dl_transcript.specs.Legal.{Seen, keeps, sees, first_fault, seen_after, last_line}

@@ -1,12 +1,12 @@
 -- When a transcript is legal: each stream is one list that grows, and each event keeps its rule. What was shown is
 -- folded into what the rules of later events ask for; an event without a rule leaves it.
-use Rattle.std.specs.Prelude.{◌≡◌, ℕ, ◌+◌, ◌-◌, Bool, true, false, if◌then◌else◌, not, ◌&&◌, ◌==◌, nat_le, List, [], ◌∷◌, ◌++◌, length, map, Option, Some, None, is_none, slice_get, bytes_eq}
+use Rattle.std.specs.Prelude.{ℕ, ◌+◌, ◌-◌, Bool, true, false, if◌then◌else◌, not, ◌&&◌, ◌==◌, nat_le, List, [], ◌∷◌, ◌++◌, length, map, Option, Some, None, is_none, slice_get, bytes_eq}
 use Rattle.std.specs.List.{list_any, list_all}
 use Rattle.dl_types.specs.declared.dlsn.Dlsn.{Dlsn}
 use Rattle.dl_types.specs.declared.row.Row.{Row}
 use Rattle.dl_types.specs.Places.{is_before, is_same, is_at_most, first_place}
 use Rattle.dl_transcript.specs.declared.event.Event.{Event}
-use Rattle.dl_transcript.specs.declared.event.Event.TheVariants.{Joined, Created, Writer, Took, Sent, Grow, Ack, Refused, Nothing}
+use Rattle.dl_transcript.specs.declared.event.Event.TheVariants.{Joined, Writer, Took, Grow, Ack}
 
 -- a record that was taken
 pub record Taken : Type 0 where
