@@ -1,20 +1,18 @@
 -- What a run takes from its source and gives to its sink.
-use Rattle.std.proofs.Common.{◌≡◌, ℕ, List, [], ◌∷◌, ◌++◌, length, Option, Some, None, true, refl, sym, ap, ◌∙◌, subst, append_assoc}
-use Rattle.std.specs.Prelude.{⊤, unwrap_or, MatchOption}
+use Rattle.std.proofs.Common.{◌≡◌, ℕ, List, [], ◌++◌, Option, Some, None, refl, sym, ap, ◌∙◌, subst, append_assoc}
+use Rattle.std.specs.Prelude.{unwrap_or, MatchOption}
 use Rattle.std.specs.Io.KnownBytes.{Consumes, Appends, IsAtEnd, Keeps}
 use Rattle.std.proofs.lemmas.List.{append-nil}
 use Rattle.dl_io.specs.Sinks.{FinishesAll, GivesFront}
 use Rattle.dl_io.proofs.Pieces.{consumes_nothing, consumes_more, consumes_kept, appends_nothing}
 use Rattle.dl_types.specs.declared.status.Status.{Status}
 use Rattle.dl_types.specs.declared.status.Status.TheVariants as status
-use Rattle.dl_transcript.specs.Legal.{is_legal}
-use Rattle.dl_transcript.specs.Lines.{print_transcript}
 use Rattle.dlog.specs.declared.ended.Ended.{Ended}
 use Rattle.dlog.specs.declared.ended.Ended.TheVariants.{Done, BadLine, Limit}
 use Rattle.dlog.specs.Laws.{EveryRunIsLegal}
 use Rattle.dlog.specs.Run.{Outcome, schedule, transcript, run}
 use Rattle.dlog.specs.Progress.{Progress, begun, IsStop, Feeds, ends_as, ended_with}
-use Rattle.dlog.specs.Answers.{IsFront, Decides, Taking, Took, TookFront, Answers, EndsRead, EndsWritten, Replayed, PrintsLegal, GivesLegal, status_of}
+use Rattle.dlog.specs.Answers.{Decides, Taking, Took, TookFront, Answers, EndsRead, EndsWritten, Replayed, PrintsLegal, GivesLegal, status_of}
 
 -- reading
 

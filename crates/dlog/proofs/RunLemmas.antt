@@ -1,7 +1,5 @@
 -- A run under way, a line and a piece at a time.
-use Rattle.std.proofs.Common.{◌≡◌, ℕ, suc, ◌+◌, ◌<◌, ◌≤◌, Bool, true, false, cond, eqb, nat_le, nat_lt, List, [], ◌∷◌, ◌++◌, length, Option, Some, None, Result, Ok, Err, refl, sym, ap, ◌∙◌, subst, append_assoc, arith, length-append}
-use Rattle.std.specs.List.{flat_map}
-use Rattle.std.specs.Prelude.{map}
+use Rattle.std.proofs.Common.{◌≡◌, ℕ, ◌+◌, ◌<◌, ◌≤◌, Bool, true, false, cond, eqb, nat_le, nat_lt, List, [], ◌∷◌, ◌++◌, length, Option, Some, None, Result, Ok, Err, refl, sym, ap, ◌∙◌, subst, append_assoc, arith, length-append}
 use Rattle.std.proofs.lemmas.Bool.{leb-false, ltb-false, ltb-true, lt-ltb, eqb-false}
 use Rattle.std.proofs.lemmas.List.{append-nil, nil_from_length}
 use Rattle.std.proofs.lemmas.Grind.{flat_map-append}
@@ -13,10 +11,10 @@ use Rattle.dl_transcript.specs.Lines.{print_event, print_all, print_transcript, 
 use Rattle.dlog.specs.declared.ended.Ended.{Ended}
 use Rattle.dlog.specs.declared.ended.Ended.TheVariants.{Done, BadLine, Limit}
 use Rattle.dlog.specs.Lines.{lines_of}
-use Rattle.dlog.specs.Machine.{State, one, Within}
-use Rattle.dlog.specs.Run.{Schedule, Outcome, line_limit, schedule_limit, stops, said, schedule_from, shown_from}
+use Rattle.dlog.specs.Machine.{one}
+use Rattle.dlog.specs.Run.{Schedule, line_limit, schedule_limit, stops, said, schedule_from, shown_from}
 use Rattle.dlog.specs.Progress.{Progress, with_front, outcome_of, behind, after_lines, ends_as, ended_with, size_of, has_feed, IsFirstLine, limit_of, IsReady, IsStop, TakesLine, Feeds}
-use Rattle.dlog.proofs.LineLemmas.{feed_both, lines_last, lines_begin, lines_split, BeginsLine}
+use Rattle.dlog.proofs.LineLemmas.{feed_both, lines_last, lines_begin, lines_split}
 use Rattle.dlog.proofs.MachineLemmas.{one_within}
 
 -- printing

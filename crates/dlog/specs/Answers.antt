@@ -11,7 +11,7 @@ use Rattle.dl_transcript.specs.Lines.{print_transcript}
 use Rattle.dlog.specs.declared.ended.Ended.{Ended}
 use Rattle.dlog.specs.declared.ended.Ended.TheVariants.{Done, BadLine, Limit}
 use Rattle.dlog.specs.Run.{Outcome, run}
-use Rattle.dlog.specs.Progress.{Progress, IsStop, ends_as, ended_with}
+use Rattle.dlog.specs.Progress.{Progress, ends_as, ended_with}
 
 -- some front of a text
 abbrev pub IsFront : List ℕ → List ℕ → Type 0

@@ -1,5 +1,5 @@
 -- The counts of a log fit their types.
-use Rattle.std.specs.Prelude.{ℕ, ◌+◌, ◌<◌, ◌^◌}
+use Rattle.std.specs.Prelude.{◌+◌, ◌<◌, ◌^◌}
 use Rattle.dlog.specs.Machine.{Log}
 
 -- one more record can be taken, and one more entry sent

@@ -1,5 +1,5 @@
 -- The plain machine: one stream that a client writes, kept as plain lists, without bookies and without a network.
-use Rattle.std.specs.Prelude.{◌≡◌, ℕ, ◌+◌, ◌<◌, Bool, nat_le, nat_lt, ◌==◌, if◌then◌else◌, List, [], ◌∷◌, ◌++◌, length, map, sum_by, Option, Some, None, IfSome}
+use Rattle.std.specs.Prelude.{ℕ, ◌+◌, ◌<◌, Bool, nat_le, nat_lt, ◌==◌, if◌then◌else◌, List, [], ◌∷◌, ◌++◌, length, map, sum_by, Option, Some, None, IfSome}
 use Rattle.std.specs.List.{flat_map}
 use Rattle.dl_types.specs.declared.row.Row.{Row}
 use Rattle.dl_types.specs.declared.refusal.Refusal.TheVariants.{TxidBack, TooLong, WindowFull}

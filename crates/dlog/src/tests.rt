@@ -1,3 +1,5 @@
+ghost use Rattle.std.specs.Prelude.{None};
+
 use crate::top::dlog_main;
 use dl_io::memory::{MemSink, MemSource};
 use dl_io::traits::{ReadFailed, Source};

@@ -1,7 +1,6 @@
 use Rattle.std.proofs.Common.{◌≡◌, ◌++◌, drop}
 use Rattle.std.specs.Prelude.{map}
-use Rattle.std.specs.List.{flat_map}
-use Rattle.dlog.specs.Machine.{grow, ack, confirmed}
+use Rattle.dlog.specs.Machine.{ack}
 use Rattle.dlog.proofs.log.show_acks.Given as goal
 
 abbrev pub invariant-loop-row : goal.invariant-loop-row

@@ -1,4 +1,4 @@
-use Rattle.std.proofs.Common.{◌≡◌, ◌≤◌, arith}
+use Rattle.std.proofs.Common.{arith}
 use Rattle.dlog.proofs.ReplayLemmas.{taking_more, took_stop, front_more}
 use Rattle.dlog.proofs.replay.read_pieces.Goals as goal
 

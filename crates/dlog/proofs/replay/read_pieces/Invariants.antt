@@ -1,4 +1,4 @@
-use Rattle.std.proofs.Common.{◌≡◌, ◌+◌, ◌-◌, ◌<◌, ◌≤◌, length}
+use Rattle.std.proofs.Common.{◌+◌, ◌-◌, ◌<◌, ◌≤◌, length}
 use Rattle.dlog.specs.Progress.{IsReady, size_of}
 use Rattle.dlog.specs.Answers.{Taking}
 use Rattle.dlog.specs.Run.{schedule_limit}

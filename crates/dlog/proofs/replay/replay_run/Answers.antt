@@ -1,5 +1,3 @@
-use Rattle.std.proofs.Common.{◌≡◌, sym, subst}
-use Rattle.dl_io.specs.Sinks.{GivesFront}
 use Rattle.dlog.proofs.ReplayLemmas.{replayed_end, replayed_write_fault, replayed_read_fault, replayed_no_memory}
 use Rattle.dlog.proofs.replay.replay_run.Goals as goal
 

@@ -1,4 +1,3 @@
-use Rattle.std.proofs.Common.{◌≡◌}
 use Rattle.dlog.proofs.Legality.{every_run}
 use Rattle.dlog.proofs.ReplayLemmas.{gives_legal}
 use Rattle.dlog.proofs.top.command.Goals as goal

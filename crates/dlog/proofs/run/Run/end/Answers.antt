@@ -1,5 +1,5 @@
-use Rattle.std.proofs.Common.{◌≡◌, ◌++◌, length, [], refl, sym, ap, ◌∙◌}
-use Rattle.std.proofs.lemmas.Bool.{eqb-true, eq-eqb, true≢false}
+use Rattle.std.proofs.Common.{◌++◌, length, [], refl, sym, ap, ◌∙◌}
+use Rattle.std.proofs.lemmas.Bool.{eqb-true}
 use Rattle.dlog.specs.Progress.{Progress}
 use Rattle.dlog.proofs.RunLemmas.{ends_empty, ends_last, ends_stop, some_pending}
 use Rattle.dlog.proofs.run.Run.end.Goals as goal

@@ -1,5 +1,5 @@
-use Rattle.std.proofs.Common.{◌≡◌, ◌+◌, ◌++◌, length, arith, ◌∙◌}
-use Rattle.dlog.proofs.RunLemmas.{feed_goes, feed_stops, first_size, fed_size}
+use Rattle.std.proofs.Common.{◌∙◌}
+use Rattle.dlog.proofs.RunLemmas.{feed_goes, feed_stops, fed_size}
 use Rattle.dlog.proofs.run.Run.feed.Goals as goal
 
 pub returns-in-Some-2-clause-feeds : goal.returns-in-Some-2-clause-feeds

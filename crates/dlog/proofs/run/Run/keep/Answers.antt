@@ -1,4 +1,4 @@
-use Rattle.std.proofs.Common.{◌≡◌, ◌+◌, length, arith, sym, ap, ◌∙◌}
+use Rattle.std.proofs.Common.{◌+◌, length, ap, ◌∙◌}
 use Rattle.dlog.specs.Progress.{Progress}
 use Rattle.dlog.proofs.RunLemmas.{keeps_limit, limit_from}
 use Rattle.dlog.proofs.run.Run.keep.Goals as goal

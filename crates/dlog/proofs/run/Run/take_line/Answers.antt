@@ -1,4 +1,4 @@
-use Rattle.std.proofs.Common.{◌++◌, length, sym, ap, ◌∙◌}
+use Rattle.std.proofs.Common.{◌++◌, length, ap, ◌∙◌}
 use Rattle.dlog.specs.Progress.{Progress}
 use Rattle.dlog.proofs.RunLemmas.{takes_limit, limit_from}
 use Rattle.dlog.proofs.run.Run.take_line.Goals as goal

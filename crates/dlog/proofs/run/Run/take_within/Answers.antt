@@ -1,4 +1,4 @@
-use Rattle.std.proofs.Common.{◌≡◌, ◌+◌, ◌++◌, Ok, Err, ap, ◌∙◌}
+use Rattle.std.proofs.Common.{◌+◌, ◌++◌, Ok, Err, ap, ◌∙◌}
 use Rattle.dlog.specs.Progress.{Progress}
 use Rattle.dlog.proofs.RunLemmas.{takes_bad, takes_step, ready_behind, read_as, bad_at}
 use Rattle.dlog.proofs.run.Run.take_within.Goals as goal
