@@ -1,0 +1,4 @@
+pub mod Bytes
+pub mod Through
+pub mod Committing
+pub mod Room

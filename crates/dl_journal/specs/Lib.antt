@@ -1,0 +1,4 @@
+pub mod State
+pub mod Batches
+pub mod Stored
+pub mod Commits
