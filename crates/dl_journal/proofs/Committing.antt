@@ -144,6 +144,7 @@ commit_first a b j body e fresh most long w = record {
   failed = (λ is. absurd (cc is), λ was. differ j.failed fresh was);
   fails = refl;
   works = tt;
+  stays = refl;
   told = λ calls are. tt;
   fronts = λ calls are. let made = w.fronts calls are in front_first a b j body made.0 calls made.1;
   unset = w.unset;
@@ -179,6 +180,7 @@ commit_second a m b j body v e fresh most long w x = record {
   failed = (λ is. absurd (cc is), λ was. differ j.failed fresh was);
   fails = refl;
   works = tt;
+  stays = refl;
   told = λ calls are. tt;
   fronts = λ calls are. let made = x.fronts _ (w.told calls are) in front_second b j body made.0 calls made.1;
   unset = λ none. x.unset (w.unset none);
@@ -231,6 +233,7 @@ commit_done a m b j body v u fresh most long w x k same gate next works = record
   failed = (λ is. absurd (cc is), λ was. differ j.failed fresh was);
   fails = tt;
   works = works;
+  stays = tt;
   told = λ calls are.
       x.told _ (w.told calls are)
       ∙ ap (λ (l : List DeviceCall). Some l) (append_assoc calls _ _)

@@ -72,6 +72,7 @@ pub record Committed (old new : View) (j k : JournalState) (body : List ℕ) (re
   pub failed : IsErrOf result Failed ↔ (j.failed ≡ true)
   pub fails : OnErr result (k.failed ≡ true)
   pub works : OnOk result (k.failed ≡ false)
+  pub stays : OnErr result (k ≡ record j { failed = true })
   -- its writing calls, and those of a commit that fails
   pub told : (calls : List DeviceCall) → old.calls j.file ≡ Some calls → OnOk result (new.calls j.file ≡ Some (calls ++ commit_calls j body))
   pub fronts : Fronts old new j.file (commit_calls j body)

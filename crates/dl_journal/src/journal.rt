@@ -1,4 +1,4 @@
-ghost use Rattle.std.specs.Prelude.{◌≡◌, ◌≤◌, ◌<◌, ◌-◌, ◌++◌, ◌^◌, [], ◌∷◌, length};
+ghost use Rattle.std.specs.Prelude.{◌≡◌, ◌≤◌, ◌<◌, ◌-◌, ◌++◌, ◌^◌, [], ◌∷◌, length, false};
 ghost use Rattle.dl_journal.specs.Batches.{framed};
 ghost use Rattle.dl_journal.specs.Commits.{IsEmpty, Made, Stands, Committed, body_of, spare_of};
 
@@ -54,6 +54,18 @@ fn fill(frame: &mut [u8], number: u64)
 }
 
 impl Journal {
+    // A journal of this file, with the place of its shut gate and the number of the next batch.
+    pub(crate) fn at(file: FileId, gate: u64, next: u64) -> Journal
+        ensures { result ≡ record { file = file; gate = gate; next = next; failed = false } }
+    {
+        Journal {
+            file,
+            gate,
+            next,
+            failed: false,
+        }
+    }
+
     /// Makes a journal without a batch in an empty file: writes the magic and a shut gate, and syncs. The next batch will
     /// have the number 0. `DeviceFault` comes where a call on the device failed; the file may then be no journal.
     pub fn make<D: Depot>(depot: &mut D, file: FileId) -> Result<Journal, DeviceFault>

@@ -5,5 +5,9 @@
 pub mod batch;
 pub mod commit_fault;
 pub mod journal;
+pub mod load;
 pub mod load_fault;
+pub mod parse;
+#[cfg(test)]
+mod tests;
 pub mod write_through;
