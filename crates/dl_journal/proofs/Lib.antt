@@ -5,3 +5,4 @@ pub mod Room
 pub mod Framing
 pub mod Parsing
 pub mod WholeFile
+pub mod OneWay

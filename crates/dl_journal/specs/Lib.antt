@@ -5,3 +5,4 @@ pub mod Commits
 pub mod Reading
 pub mod Parsed
 pub mod Load
+pub mod OneReading

@@ -5,6 +5,7 @@
 pub mod batch;
 pub mod commit_fault;
 pub mod journal;
+pub mod law;
 pub mod load;
 pub mod load_fault;
 pub mod parse;
