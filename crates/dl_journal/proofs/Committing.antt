@@ -15,7 +15,7 @@ use Rattle.dl_journal.specs.declared.commit_fault.CommitFault.{CommitFault}
 use Rattle.dl_journal.specs.declared.commit_fault.CommitFault.TheVariants.{Device}
 use Rattle.dl_journal.specs.Batches.{magic, framed, spell, InForce, BeforeOrAfter}
 use Rattle.dl_journal.specs.State.{JournalState}
-use Rattle.dl_journal.specs.Stored.{Stored, Spends, Fronts}
+use Rattle.dl_journal.specs.Stored.{Stored}
 use Rattle.dl_journal.specs.Commits.{IsEmpty, Made, start, fresh, commit_calls, Settled, Stands, Committed, Shows, opens, batch_of}
 use Rattle.dl_journal.proofs.Bytes.{length-framed, torn_frame, put_frame, torn_gate, put_gate, runs-push, spell-push}
 use Rattle.dl_journal.proofs.Through.{rose_on, differ}
@@ -127,8 +127,11 @@ front_first a b j body (suc (suc n)) calls are = (2, are ∙ ap (λ (l : List De
 -- and behind it
 front_second : (b : View) (j : JournalState) (body : List ℕ) (n : ℕ) (calls : List DeviceCall)
     → b.calls j.file ≡ Some ((calls ++ Write (j.gate + 1) (length (written j body)) ∷ Sync ∷ []) ++ take n (Write j.gate 1 ∷ Sync ∷ [])) → (k : ℕ) × (b.calls j.file ≡ Some (calls ++ take k (commit_calls j body)))
-front_second b j body n calls are = (suc (suc n), are ∙ ap (λ (l : List DeviceCall). Some l) (append_assoc calls (Write (j.gate + 1) (length (written j body)) ∷ Sync ∷ []) (take n (Write j.gate 1 ∷ Sync ∷ [])))
-    ∙ ap (λ (k : ℕ). Some (calls ++ Write (j.gate + 1) k ∷ Sync ∷ take n (Write j.gate 1 ∷ Sync ∷ []))) (length-written j body))
+front_second b j body n calls are = (
+  suc (suc n),
+  are ∙ ap (λ (l : List DeviceCall). Some l) (append_assoc calls (Write (j.gate + 1) (length (written j body)) ∷ Sync ∷ []) (take n (Write j.gate 1 ∷ Sync ∷ [])))
+      ∙ ap (λ (k : ℕ). Some (calls ++ Write (j.gate + 1) k ∷ Sync ∷ take n (Write j.gate 1 ∷ Sync ∷ []))) (length-written j body),
+)
 
 -- the frame failed
 pub commit_first : (a b : View) (j : JournalState) (body : List ℕ) (e : DeviceFault) → j.failed ≡ false → j.next < 2 ^ 63 → length body < 2 ^ 32

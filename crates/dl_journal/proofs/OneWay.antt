@@ -1,5 +1,5 @@
 -- Batches behind gates are spelled in one way.
-use Rattle.std.proofs.Common.{◌≡◌, ◌≢◌, ◌⊎◌, inl, inr, ℕ, zero, suc, ◌+◌, ◌-◌, ◌≤◌, ◌<◌, ◌^◌, List, [], ◌∷◌, ◌++◌, length, drop, take, Option, Some, None, Bool, true, false, ◌==◌, ◌&&◌, nat_lt, sym, ◌∙◌, ap, subst, refl, arith, append_assoc, length-append}
+use Rattle.std.proofs.Common.{◌≡◌, ◌≢◌, ◌⊎◌, inl, inr, ℕ, ◌+◌, ◌<◌, ◌^◌, List, [], ◌∷◌, ◌++◌, length, drop, take, Option, Some, Bool, true, false, ◌==◌, ◌&&◌, nat_lt, sym, ◌∙◌, ap, subst, refl, arith, append_assoc, length-append}
 use Rattle.std.specs.Int.{w32, w64, to_be_bytes, from_be_bytes}
 use Rattle.std.proofs.lemmas.Nat.{from_be_bytes-to_be_bytes_4, from_be_bytes-to_be_bytes_8}
 use Rattle.std.proofs.lemmas.Bool.Decides.{nat_tests}
@@ -172,11 +172,11 @@ one_fault due more i j (inr f) (inr g) = f.1 ∙ sym g.1
 one_fault due more i j (inl f) (inr g) = absurd (apart due more f.0 g.0)
   where
     apart : (due : Option ℕ) (more : List ℕ) → BadNumber due more → BadLength due more → ⊥
-    apart due more f g = elim f.bad [ | inl short ↦ omega (arith, short, g.whole) | inr undue ↦ let is = g.number in absurd (cc (undue, is)) ]
+    apart due more f g = elim f.bad [ inl short ↦ omega (arith, short, g.whole) | inr undue ↦ let is = g.number in absurd (cc (undue, is)) ]
 one_fault due more i j (inr f) (inl g) = sym (one_fault_turned due more j i g f)
   where
     one_fault_turned : (due : Option ℕ) (more : List ℕ) (i j : ℕ) → BadNumber due more × (i ≡ 0) → BadLength due more × (j ≡ 8) → i ≡ j
-    one_fault_turned due more i j f g = elim f.0.bad [ | inl short ↦ absurd (omega (arith, short, g.0.whole)) | inr undue ↦ let is = g.0.number in absurd (cc (undue, is)) ]
+    one_fault_turned due more i j f g = elim f.0.bad [ inl short ↦ absurd (omega (arith, short, g.0.whole)) | inr undue ↦ let is = g.0.number in absurd (cc (undue, is)) ]
 
 same_due : (m n : ℕ) (x : List Batch) → Runs m x → Runs n x → due_of m x ≡ due_of n x
 same_due m n [] p q = refl

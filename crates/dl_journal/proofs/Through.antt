@@ -1,12 +1,12 @@
 -- A write that is on the device.
-use Rattle.std.proofs.Common.{◌≡◌, ◌⊎◌, inl, inr, ℕ, ◌≤◌, List, [], ◌∷◌, ◌++◌, length, take, Some, Bool, true, false, Result, Ok, Err, sym, ◌∙◌, ap, subst, arith, append_assoc, OnOk, OnErr}
+use Rattle.std.proofs.Common.{◌≡◌, ◌⊎◌, inl, inr, ℕ, ◌≤◌, List, [], ◌∷◌, ◌++◌, length, Some, Bool, true, false, Result, Ok, Err, sym, ◌∙◌, ap, subst, arith, append_assoc, OnOk, OnErr}
 use Rattle.std.proofs.lemmas.List.{append-nil}
 use Rattle.dl_depot.specs.declared.device_fault.DeviceFault.{DeviceFault}
 use Rattle.dl_depot.specs.declared.device_call.DeviceCall.{DeviceCall}
 use Rattle.dl_depot.specs.declared.device_call.DeviceCall.TheVariants.{Write, Sync}
 use Rattle.dl_depot.specs.declared.fuse.Fuse.{Fuse}
 use Rattle.dl_depot.specs.View.{View}
-use Rattle.dl_depot.specs.Device.{Wrote, Synced, Torn, put, Burns, Rose, left_by, Passes}
+use Rattle.dl_depot.specs.Device.{Wrote, Synced, Torn, put, Rose, left_by, Passes}
 use Rattle.dl_depot.proofs.Moments.{keeps_trans, ordered}
 use Rattle.dl_journal.specs.Stored.{Stored, Spends, Fronts}
 

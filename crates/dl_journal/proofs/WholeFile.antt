@@ -11,10 +11,9 @@ use Rattle.dl_depot.proofs.Moments.{keeps_trans, ordered}
 use Rattle.dl_journal.specs.declared.batch.Batch.{Batch}
 use Rattle.dl_journal.specs.declared.load_fault.LoadFault.{LoadFault}
 use Rattle.dl_journal.specs.declared.load_fault.LoadFault.TheVariants.{Damaged, TooLarge, Device, NoMemory}
-use Rattle.dl_journal.specs.declared.parse.Contents.{Contents}
 use Rattle.dl_journal.specs.State.{JournalState}
 use Rattle.dl_journal.specs.Stored.{Fronts}
-use Rattle.dl_journal.specs.Commits.{Settled, Stands}
+use Rattle.dl_journal.specs.Commits.{Settled}
 use Rattle.dl_journal.specs.Reading.{Breaks, Holds}
 use Rattle.dl_journal.specs.Parsed.{Parses}
 use Rattle.dl_journal.specs.Load.{OnDisk, Fetched, Loaded}

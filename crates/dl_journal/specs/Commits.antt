@@ -1,5 +1,5 @@
 -- When a journal stands for batches, and what its calls do.
-use Rattle.std.specs.Prelude.{◌≡◌, ◌≢◌, ◌≤◌, ◌<◌, ◌+◌, ◌-◌, ◌^◌, ℕ, suc, List, [], ◌∷◌, ◌++◌, length, take, drop, Some, None, Bool, true, false, cond, nat_lt, Result, Ok, Err, OnOk, OnErr, IsErrOf, IfOk, ◌↔◌}
+use Rattle.std.specs.Prelude.{◌≡◌, ◌≢◌, ◌+◌, ◌-◌, ◌^◌, ℕ, suc, List, [], ◌∷◌, ◌++◌, length, take, drop, Some, None, Bool, true, false, cond, nat_lt, Result, OnOk, OnErr, IsErrOf, IfOk, ◌↔◌}
 use Rattle.dl_depot.specs.View.{View, Keeps, LeavesOnly}
 use Rattle.dl_depot.specs.Device.{Rose}
 use Rattle.dl_depot.specs.declared.device_call.DeviceCall.{DeviceCall}
@@ -7,7 +7,7 @@ use Rattle.dl_depot.specs.declared.device_call.DeviceCall.TheVariants.{Write, Sy
 use Rattle.dl_depot.specs.declared.device_fault.DeviceFault.{DeviceFault}
 use Rattle.dl_depot.specs.declared.fuse.Fuse.{Fuse}
 use Rattle.dl_depot.specs.declared.fuse.Outcome.{Outcome}
-use Rattle.dl_depot.specs.declared.fuse.Outcome.TheVariants.{Before, After}
+use Rattle.dl_depot.specs.declared.fuse.Outcome.TheVariants.{After}
 use Rattle.dl_journal.specs.declared.batch.Batch.{Batch}
 use Rattle.dl_journal.specs.declared.commit_fault.CommitFault.{CommitFault}
 use Rattle.dl_journal.specs.declared.commit_fault.CommitFault.TheVariants.{Device, Failed}

@@ -1,5 +1,5 @@
 -- A journal is read from its file, after a sync.
-use Rattle.std.specs.Prelude.{◌≡◌, false, ◌≤◌, ◌<◌, ℕ, List, [], ◌∷◌, ◌++◌, Some, None, Result, Ok, Err, IfOk, OnOk, IsErrOf, length, Vec, ⊤}
+use Rattle.std.specs.Prelude.{◌≡◌, false, ◌≤◌, ◌<◌, ℕ, List, [], ◌∷◌, ◌++◌, Some, None, Result, IfOk, OnOk, IsErrOf, length, Vec}
 use Rattle.std.specs.declared.alloc.Global.{Global}
 use Rattle.dl_depot.specs.View.{View, Keeps}
 use Rattle.dl_depot.specs.Device.{Rose}

@@ -49,7 +49,11 @@ pub fn fetch<D: Depot>(alloc: Global, depot: &mut D, file: FileId) -> Result<Vec
 /// `TooLarge` comes exactly where the file has more than 268,435,456 bytes, `Damaged` exactly where it has no more and
 /// its bytes break the layout, with the place of the first part that does; `Device` only where the file's count of
 /// faults rose, or stands at the greatest u64.
-pub fn load<D: Depot>(alloc: Global, depot: &mut D, file: FileId) -> Result<(Journal, Vec<Batch>), LoadFault>
+pub fn load<D: Depot>(
+    alloc: Global,
+    depot: &mut D,
+    file: FileId,
+) -> Result<(Journal, Vec<Batch>), LoadFault>
     ensures { Loaded (D.view depot.old) (D.view depot.new) file result }
 {
     let bytes = match fetch(alloc, depot, file) {

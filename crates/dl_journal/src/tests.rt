@@ -62,10 +62,17 @@ fn a_stop_leaves_the_batch_or_not(rt: HostRuntime) -> Result<(), Fail> {
         depot.fuse(file, call + 1, outcome);
         let mut journal = Journal::make(&mut depot, file)?;
         let mut frame = ABC;
-        assert_eq!(rt; journal.commit(&mut depot, &mut frame), Err(CommitFault::Device));
+        assert_eq!(rt;
+            journal.commit(&mut depot, &mut frame),
+            Err(CommitFault::Device)
+        );
         assert!(rt; depot.revive(file));
         let (_, batches) = load(rt.alloc(), &mut depot, file)?;
-        assert_eq!(rt; is_abc(&batches), is_left, "stopped in call {call}, {outcome:?}");
+        assert_eq!(rt;
+            is_abc(&batches),
+            is_left,
+            "stopped in call {call}, {outcome:?}"
+        );
     }
     Ok(())
 }
@@ -78,9 +85,15 @@ fn a_fault_leaves_the_batch_or_not(rt: HostRuntime) -> Result<(), Fail> {
         depot.fail_once(file, call + 2);
         let mut journal = Journal::make(&mut depot, file)?;
         let mut frame = ABC;
-        assert_eq!(rt; journal.commit(&mut depot, &mut frame), Err(CommitFault::Device));
+        assert_eq!(rt;
+            journal.commit(&mut depot, &mut frame),
+            Err(CommitFault::Device)
+        );
         if journal.spare() >= 3 {
-            assert_eq!(rt; journal.commit(&mut depot, &mut frame), Err(CommitFault::Failed));
+            assert_eq!(rt;
+                journal.commit(&mut depot, &mut frame),
+                Err(CommitFault::Failed)
+            );
         }
         let (_, batches) = load(rt.alloc(), &mut depot, file)?;
         assert_eq!(rt; is_abc(&batches), is_left, "call {call} fails");
@@ -115,8 +128,14 @@ fn damage_has_its_place(rt: HostRuntime) -> Result<(), Fail> {
         (b"DLJRNL01\x01\0\0\0\0\0\0\0\0\0\0\0\x05abcd", Some(17)),
         (one, Some(21)),
         (b"DLJRNL01\x01\0\0\0\0\0\0\0\x07\0\0\0\0\0", None),
-        (b"DLJRNL01\x01\0\0\0\0\0\0\0\x07\0\0\0\0\x01\0\0\0\0\0\0\0\x09\0\0\0\0\0", Some(22)),
-        (b"DLJRNL01\x01\0\0\0\0\0\0\0\x07\0\0\0\0\x01\0\0\0\0\0\0\0\x08\0\0\0\0\0", None),
+        (
+            b"DLJRNL01\x01\0\0\0\0\0\0\0\x07\0\0\0\0\x01\0\0\0\0\0\0\0\x09\0\0\0\0\0",
+            Some(22),
+        ),
+        (
+            b"DLJRNL01\x01\0\0\0\0\0\0\0\x07\0\0\0\0\x01\0\0\0\0\0\0\0\x08\0\0\0\0\0",
+            None,
+        ),
     ];
     for (bytes, at) in rows {
         assert_eq!(rt; damage_of(&rt, bytes)?, at, "in {bytes:?}");

@@ -7,7 +7,12 @@ use dl_depot::file_id::FileId;
 
 /// A write at a place of the file, at most its size, and then a sync: at `Ok` the bytes are on the device. `DeviceFault`
 /// comes where a call on the device failed.
-pub fn store<D: Depot>(depot: &mut D, file: FileId, at: u64, bytes: &[u8]) -> Result<(), DeviceFault>
+pub fn store<D: Depot>(
+    depot: &mut D,
+    file: FileId,
+    at: u64,
+    bytes: &[u8],
+) -> Result<(), DeviceFault>
     requires { AtMost at (D.view depot.old) file }
     ensures { Stored (D.view depot.old) (D.view depot.new) file at bytes.now result }
 {

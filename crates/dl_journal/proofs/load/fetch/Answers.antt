@@ -1,4 +1,4 @@
-use Rattle.std.proofs.Common.{◌≡◌, ◌≤◌, ◌∙◌, ap, sym, List, ℕ, length, take, arith, length-take}
+use Rattle.std.proofs.Common.{◌≡◌, ◌∙◌, ap, List, ℕ, length, take, arith, length-take}
 use Rattle.std.proofs.lemmas.List.{take_at}
 use Rattle.dl_journal.proofs.WholeFile.{reached, looks_on, sync_failed, look_failed, no_room, fetched}
 use Rattle.dl_journal.proofs.load.fetch.Goals as goal

@@ -1,4 +1,4 @@
-use Rattle.std.proofs.Common.{◌≡◌, ◌∙◌, ◌+◌, ◌≤◌, ◌++◌, ◌∷◌, [], List, ℕ, Some, length, drop, sym, subst, ap, arith}
+use Rattle.std.proofs.Common.{◌≡◌, ◌∙◌, ◌+◌, ◌≤◌, ◌++◌, ◌∷◌, [], List, ℕ, length, drop, sym, subst, ap, arith}
 use Rattle.std.proofs.lemmas.List.{take_rest}
 use Rattle.dl_journal.specs.declared.batch.Batch.{Batch}
 use Rattle.dl_journal.specs.Batches.{magic, spell, Runs}
@@ -30,6 +30,6 @@ returns c =
     let inv = c.loop-at.invariant in
     elim c.loop-at-test.branch [
       | then-loop-at-test+else-bytes-at-eq1 w ↦
-        holds c.args.bytes.now c.loop-at.at c.unwrap_or.result c.loop-at.due inv.first c.loop-at.batches.items inv.runs inv.due inv.place w.loop-at-test.true w.if-bytes-at-eq1.false inv.spelled c.unwrap_or.ensures
+          holds c.args.bytes.now c.loop-at.at c.unwrap_or.result c.loop-at.due inv.first c.loop-at.batches.items inv.runs inv.due inv.place w.loop-at-test.true w.if-bytes-at-eq1.false inv.spelled c.unwrap_or.ensures
       | else-loop-at-test w ↦ absurd (omega arith)
     ]

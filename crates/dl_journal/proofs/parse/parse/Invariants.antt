@@ -1,4 +1,4 @@
-use Rattle.std.proofs.Common.{◌≡◌, ◌≤◌, ◌+◌, ◌-◌, ◌++◌, ℕ, length, drop, Option}
+use Rattle.std.proofs.Common.{◌≡◌, ◌≤◌, ◌+◌, ◌-◌, ◌++◌, ℕ, length, drop}
 use Rattle.dl_journal.specs.Batches.{magic, spell, Runs}
 use Rattle.dl_journal.specs.Reading.{due_of}
 use Rattle.dl_journal.proofs.parse.parse.Given as goal

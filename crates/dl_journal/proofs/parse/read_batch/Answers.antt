@@ -1,5 +1,5 @@
-use Rattle.std.proofs.Common.{◌≡◌, ◌∙◌, List, ℕ, length, ◌≤◌, ◌-◌, ◌+◌, arith, true, rules}
-use Rattle.dl_journal.specs.Reading.{is_due, size_of}
+use Rattle.std.proofs.Common.{◌≡◌, ◌∙◌, arith, true, rules}
+use Rattle.dl_journal.specs.Reading.{is_due}
 use Rattle.dl_journal.proofs.Parsing.{framed_is}
 use Rattle.dl_journal.proofs.parse.read_batch.Goals as goal
 

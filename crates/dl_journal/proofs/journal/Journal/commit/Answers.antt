@@ -1,4 +1,4 @@
-use Rattle.std.proofs.Common.{refl, arith, ◌≡◌, ◌+◌, ◌-◌, ◌≤◌, ◌<◌, ◌^◌, ℕ, List, Bool, false, ◌∙◌, ap, sym, subst, length, Result, Err, Ok}
+use Rattle.std.proofs.Common.{refl, ◌≡◌, ◌+◌, ◌-◌, ◌≤◌, ℕ, List, ◌∙◌, ap, sym, subst, length, Err, Ok}
 use Rattle.dl_journal.specs.State.{JournalState}
 use Rattle.dl_journal.specs.Stored.{Stored}
 use Rattle.dl_journal.specs.Commits.{Stands, spare_of, body_of}
