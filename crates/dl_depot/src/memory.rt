@@ -96,13 +96,14 @@ impl Depot for MemDepot {
 }
 
 impl Stopper for MemDepot {
-    ghost use Rattle.std.specs.Prelude.{None};
+    ghost use Rattle.std.specs.Prelude.{None, false};
     ghost use Rattle.dl_depot.specs.Stops.{FuseSet, Revived};
     ghost use Rattle.dl_depot.specs.Memory.{view_by, held_by, Sets};
 
     /// Sets a fuse on the file. The number of the call that is to fail stays.
     fn fuse(&mut self, file: FileId, calls: u64, outcome: Outcome)
-        ensures { FuseSet (view_by self.old) (view_by self.new) file calls outcome }
+        ensures set { FuseSet (view_by self.old) (view_by self.new) file calls outcome }
+        ensures held { Sets self.old self.new file (record (held_by self.old file) { fuse = Some (record { left = calls; outcome = outcome; stopped = false }) }) }
     {
         let fuse = Fuse {
             left: calls,
@@ -115,7 +116,8 @@ impl Stopper for MemDepot {
 
     /// Takes the file's fuse away. The number of the call that is to fail stays.
     fn revive(&mut self, file: FileId) -> bool
-        ensures { Revived (view_by self.old) (view_by self.new) file result }
+        ensures revived { Revived (view_by self.old) (view_by self.new) file result }
+        ensures held { Sets self.old self.new file (record (held_by self.old file) { fuse = None }) }
     {
         let held = &mut self.files[file.index()];
         let has_stopped = held.has_stopped();
