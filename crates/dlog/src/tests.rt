@@ -3,7 +3,14 @@ ghost use Rattle.std.specs.Prelude.{None};
 use crate::top::dlog_main;
 use dl_io::memory::{MemSink, MemSource};
 use dl_io::traits::{ReadFailed, Source};
+use dl_transcript::event::Event;
+use dl_transcript::print::print_event;
+use dl_types::client::ClientId;
+use dl_types::dlsn::Dlsn;
+use dl_types::name::Name;
+use dl_types::payload::Payload;
 use dl_types::status::{LimitName, Status};
+use dl_types::txid::TxId;
 use dl_types::word::Word;
 use std::alloc::Global;
 use std::test::Fail;
@@ -234,6 +241,28 @@ fn words_and_bad_lines_are_refused(rt: HostRuntime) -> Result<(), Fail> {
             .as_slice()
             .ends_with(b"6 writer 0 s 1\n7 took 0 1 s 1 61\n")
     );
+    Ok(())
+}
+
+#[test]
+fn one_event_is_one_line(rt: HostRuntime) -> Result<(), Fail> {
+    let alloc = rt.alloc();
+    let event = Event::Grow {
+        stream: Name::new(alloc, b"a_1-z")?,
+        place: Dlsn {
+            segment: u64::MAX,
+            entry: 20,
+            slot: u32::MAX,
+        },
+        txid: TxId::new(TxId::MAX),
+        client: ClientId::new(ClientId::MAX),
+        call: 7,
+        payload: Payload::new(alloc, b"\x00\xff")?,
+    };
+    let line = print_event(alloc, 1_000_000, &event)?;
+    let want =
+        b"1000000 grow a_1-z 18446744073709551615:20:4294967295 9223372036854775807 63 7 00ff\n";
+    assert_eq!(rt; line.as_slice(), want.as_slice());
     Ok(())
 }
 
