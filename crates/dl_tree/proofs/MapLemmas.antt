@@ -1,0 +1,60 @@
+-- Trees as maps: what stands at a path after a change, and when two trees are the same.
+use Rattle.std.proofs.Common.{◌≡◌, ℕ, Bool, true, false, cond, not, List, [], ◌∷◌, Option, Some, None, refl, sym, ap, ◌∙◌, subst, inl, inr, ◌⊎◌}
+use Rattle.std.proofs.lemmas.Bool.{cond-true, cond-false, cases_Bool, true≢false}
+use Rattle.std.proofs.lemmas.Map.Lookups.{exact_bytes}
+use Rattle.std.proofs.lemmas.Map.Views.{tells_apart}
+use Rattle.std.specs.Cmp.{eq_by_cmp_equiv}
+use Rattle.std.specs.Cmp.Lexicographic.{slice_cmp, nat_list_cmp_total}
+use Rattle.std.specs.Ordering.{nat_cmp, eq_by_cmp}
+use Rattle.std.specs.FinMap.{get, insert, remove, get-insert, get-remove, get-retain_keys, retain_keys, same_map}
+use Rattle.dl_tree.specs.declared.node.Node.{Node}
+use Rattle.dl_tree.specs.Trees.{Nodes}
+use Rattle.dl_tree.specs.Slots.{put}
+
+-- whether two paths are the same
+abbrev pub same_path : List ℕ → List ℕ → Bool
+same_path q p = eq_by_cmp (slice_cmp nat_cmp) q p
+
+pub path_is : (q p : List ℕ) → same_path q p ≡ true → q ≡ p
+path_is q p e = tells_apart exact_bytes q p e
+
+pub path_itself : (p : List ℕ) → same_path p p ≡ true
+path_itself p = (eq_by_cmp_equiv nat_list_cmp_total).refl p
+
+pub path_turned : (q p : List ℕ) → same_path q p ≡ same_path p q
+path_turned q p = (eq_by_cmp_equiv nat_list_cmp_total).symm q p
+
+pub path_other : (q p : List ℕ) → (q ≡ p → ⊥) → same_path q p ≡ false
+path_other q p apart = go (cases_Bool (same_path q p))
+  where
+    go : (same_path q p ≡ true) ⊎ (same_path q p ≡ false) → same_path q p ≡ false
+    go (inl e) = absurd (apart (path_is q p e))
+    go (inr e) = e
+
+pub get-put : (t : Nodes) (p : List ℕ) (o : Option Node) (q : List ℕ) → get (put t p o) q ≡ cond (same_path q p) o (get t q)
+get-put t p None q = get-remove nat_list_cmp_total t p q
+get-put t p (Some n) q = get-insert nat_list_cmp_total t p n q
+
+pub get-put_same : (t : Nodes) (p : List ℕ) (o : Option Node) → get (put t p o) p ≡ o
+get-put_same t p o = get-put t p o p ∙ cond-true _ _ _ (path_itself p)
+
+pub get-put_other : (t : Nodes) (p : List ℕ) (o : Option Node) (q : List ℕ) → (q ≡ p → ⊥) → get (put t p o) q ≡ get t q
+get-put_other t p o q apart = get-put t p o q ∙ cond-false _ _ _ (path_other q p apart)
+
+pub same_tree : (t u : Nodes) → ((q : List ℕ) → get t q ≡ get u q) → t ≡ u
+same_tree t u each = same_map nat_list_cmp_total exact_bytes t u each
+
+again : {A : Type 0} (b : Bool) (x y z : A) → cond b x (cond b y z) ≡ cond b x z
+again true x y z = refl
+again false x y z = refl
+
+-- what stood at a path, put back, undoes a change there
+pub put_back : (t : Nodes) (p : List ℕ) (o : Option Node) → put (put t p o) p (get t p) ≡ t
+put_back t p o = same_tree _ _ each
+  where
+    each : (q : List ℕ) → get (put (put t p o) p (get t p)) q ≡ get t q
+    each q = get-put (put t p o) p (get t p) q ∙ go (cases_Bool (same_path q p))
+      where
+        go : (same_path q p ≡ true) ⊎ (same_path q p ≡ false) → cond (same_path q p) (get t p) (get (put t p o) q) ≡ get t q
+        go (inl e) = cond-true _ _ _ e ∙ ap (get t) (sym (path_is q p e))
+        go (inr e) = cond-false _ _ _ e ∙ get-put t p o q ∙ cond-false _ _ _ e

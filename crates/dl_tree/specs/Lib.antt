@@ -1,0 +1,5 @@
+pub mod Paths
+pub mod Trees
+pub mod Laws
+pub mod Slots
+pub mod Faults

@@ -1,0 +1,174 @@
+-- The metadata tree: a finite map from paths to nodes, and what each operation answers and leaves.
+use Rattle.std.specs.Prelude.{ℕ, ◌+◌, ◌-◌, ◌^◌, Bool, true, false, if◌then◌else◌, not, ◌&&◌, ◌||◌, ◌==◌, nat_le, ◌≤◌, List, [], ◌∷◌, ◌++◌, length, map, filter, Option, Some, None, is_some, Result, Ok, Err, bytes_eq}
+use Rattle.std.specs.FinMap.{FinMap, empty, get, insert, remove, retain_keys, keys}
+use Rattle.std.specs.Cmp.Lexicographic.{slice_cmp}
+use Rattle.std.specs.Ordering.{nat_cmp}
+use Rattle.dl_types.specs.declared.mode.Mode.{Mode}
+use Rattle.dl_types.specs.declared.mode.Mode.TheVariants.{Lasting, Ephemeral, Counted, EphemeralCounted}
+use Rattle.dl_types.specs.declared.one_op.OneOp.{OneOp}
+use Rattle.dl_types.specs.declared.one_op.OneOp.TheVariants.{Create, Delete, Set, Check, Get, Children}
+use Rattle.dl_types.specs.declared.meta_op.MetaOp.{MetaOp}
+use Rattle.dl_types.specs.declared.meta_op.MetaOp.TheVariants as op
+use Rattle.dl_types.specs.declared.one_answer.OneAnswer.{OneAnswer}
+use Rattle.dl_types.specs.declared.one_answer.OneAnswer.TheVariants.{Made, Done, Version, Bytes, Names}
+use Rattle.dl_types.specs.declared.meta_answer.MetaAnswer.{MetaAnswer}
+use Rattle.dl_types.specs.declared.meta_answer.MetaAnswer.TheVariants as answer
+use Rattle.dl_types.specs.declared.why.Why.{Why}
+use Rattle.dl_types.specs.declared.why.Why.TheVariants.{NoNode, NodeExists, BadVersion, NotEmpty, EphemeralParent, Spent}
+use Rattle.dl_tree.specs.declared.node.Node.{Node}
+use Rattle.dl_tree.specs.Paths.{root, parent_of, name_of, is_child, digits}
+
+-- a finite map from paths, in byte order, to nodes
+abbrev pub Nodes : Type 0
+Nodes = FinMap (slice_cmp nat_cmp) Node
+
+-- the root alone
+abbrev pub root_alone : Nodes
+root_alone = insert empty root (record { bytes = []; version = 0; owner = None; counter = 0 })
+
+-- the paths of a node's children, in byte order
+abbrev pub children : Nodes → List ℕ → List (List ℕ)
+children t path = filter (is_child path) (keys t)
+
+-- the names of a node's children, in byte order
+abbrev pub child_names : Nodes → List ℕ → List (List ℕ)
+child_names t path = map name_of (children t path)
+
+-- whether a mode adds the parent's counter to the name
+abbrev pub is_counted : Mode → Bool
+is_counted Lasting = false
+is_counted Ephemeral = false
+is_counted Counted = true
+is_counted EphemeralCounted = true
+
+-- who owns a node that a session makes in a mode
+abbrev pub owner_of : Mode → ℕ → Option ℕ
+owner_of Lasting session = None
+owner_of Ephemeral session = Some session
+owner_of Counted session = None
+owner_of EphemeralCounted session = Some session
+
+-- an answer with the tree that is left, or why there is none
+abbrev pub Outcome : Type 0
+Outcome = Result (OneAnswer × Nodes) Why
+
+-- whether a version that may be named is the node's
+abbrev pub fits : Option ℕ → Node → Bool
+fits None n = true
+fits (Some v) n = v == n.version
+
+-- the path that a creation makes
+abbrev pub made_path : List ℕ → Mode → Node → List ℕ
+made_path path mode parent = if is_counted mode then path ++ digits 10 parent.counter else path
+
+-- the parent after a creation: a counted one raises its counter
+abbrev pub counted_up : Mode → Node → Node
+counted_up mode parent = record parent { counter = if is_counted mode then parent.counter + 1 else parent.counter }
+
+-- a new node
+abbrev pub new_node : List ℕ → Mode → ℕ → Node
+new_node bytes mode session = record { bytes = bytes; version = 0; owner = owner_of mode session; counter = 0 }
+
+-- a creation below a parent that is there
+unfoldable pub created : Nodes → ℕ → List ℕ → List ℕ → Mode → Node → Outcome
+created t session path bytes mode parent =
+    if is_some parent.owner then Err EphemeralParent
+    else (if is_counted mode && nat_le (10 ^ 10) parent.counter then Err Spent
+    else (if is_some (get t (made_path path mode parent)) then Err NodeExists
+    else Ok (
+      Made (made_path path mode parent),
+      insert (insert t (parent_of path) (counted_up mode parent)) (made_path path mode parent) (new_node bytes mode session),
+    )))
+
+-- the parent of a node to be made; the root has none, but a name that is counted at the root has the root
+abbrev pub parent_in : Nodes → List ℕ → Mode → Option Node
+parent_in t path mode = if bytes_eq path root && not (is_counted mode) then None else get t (parent_of path)
+
+abbrev pub create : Nodes → ℕ → List ℕ → List ℕ → Mode → Option Node → Outcome
+create t session path bytes mode None = Err NoNode
+create t session path bytes mode (Some parent) = created t session path bytes mode parent
+
+-- a deletion; the root is never deleted
+abbrev pub delete : Nodes → List ℕ → Option ℕ → Option Node → Outcome
+delete t path version None = Err NoNode
+delete t path version (Some n) =
+    if bytes_eq path root then Err (NotEmpty (length (child_names t path)))
+    else (if not (fits version n) then Err (BadVersion n.version)
+    else (if not (length (child_names t path) == 0) then Err (NotEmpty (length (child_names t path)))
+    else Ok (Done, remove t path)))
+
+abbrev pub set : Nodes → List ℕ → List ℕ → Option ℕ → Option Node → Outcome
+set t path bytes version None = Err NoNode
+set t path bytes version (Some n) =
+    if not (fits version n) then Err (BadVersion n.version)
+    else (if n.version == 2 ^ 64 - 1 then Err Spent
+    else Ok (Version (n.version + 1), insert t path (record n { bytes = bytes; version = n.version + 1 })))
+
+abbrev pub check : Nodes → Option ℕ → Option Node → Outcome
+check t version None = Err NoNode
+check t version (Some n) = if fits version n then Ok (Done, t) else Err (BadVersion n.version)
+
+abbrev pub bytes_at : Nodes → Option Node → Outcome
+bytes_at t None = Err NoNode
+bytes_at t (Some n) = Ok (Bytes n.bytes n.version, t)
+
+abbrev pub names : Nodes → List ℕ → Option Node → Outcome
+names t path None = Err NoNode
+names t path (Some n) = Ok (Names (child_names t path), t)
+
+-- one operation of a session, the first row that holds
+unfoldable pub one : Nodes → ℕ → OneOp → Outcome
+one t session (Create path bytes mode) = create t session path bytes mode (parent_in t path mode)
+one t session (Delete path version) = delete t path version (get t path)
+one t session (Set path bytes version) = set t path bytes version (get t path)
+one t session (Check path version) = check t version (get t path)
+one t session (Get path) = bytes_at t (get t path)
+one t session (Children path) = names t path (get t path)
+
+-- all answers and the last tree, or the place and the reason of the first failure
+abbrev pub Run : Type 0
+Run = Result (List OneAnswer × Nodes) (ℕ × Why)
+
+abbrev pub with_front : OneAnswer → Run → Run
+with_front a (Ok r) = Ok (a ∷ r.0, r.1)
+with_front a (Err e) = Err e
+
+abbrev pub then_rest : Outcome → ℕ → (Nodes → Run) → Run
+then_rest (Ok r) place rest = with_front r.0 (rest r.1)
+then_rest (Err why) place rest = Err (place, why)
+
+-- operations in order, each on the tree that the earlier ones leave
+unfoldable pub all : Nodes → ℕ → ℕ → List OneOp → Run
+all t session place [] = Ok ([], t)
+all t session place (x ∷ xs) = then_rest (one t session x) place (λ next. all next session (place + 1) xs)
+
+abbrev pub after_one : Nodes → Outcome → MetaAnswer × Nodes
+after_one t (Ok r) = (answer.One r.0, r.1)
+after_one t (Err why) = (answer.Failed 0 why, t)
+
+abbrev pub after_all : Nodes → Run → MetaAnswer × Nodes
+after_all t (Ok r) = (answer.Many r.0, r.1)
+after_all t (Err e) = (answer.Failed e.0 e.1, t)
+
+-- a request: its answer, and the tree that it leaves; after a failure that is the tree before
+unfoldable pub applied : Nodes → ℕ → MetaOp → MetaAnswer × Nodes
+applied t session (op.One x) = after_one t (one t session x)
+applied t session (op.Multi ops) = after_all t (all t session 0 ops)
+
+-- a request has no more operations than there are places
+abbrev pub HasPlaces : MetaOp → Type 0
+HasPlaces (op.One x) = Unit {0}
+HasPlaces (op.Multi ops) = length ops ≤ 65535
+
+abbrev pub is_owner : ℕ → Option ℕ → Bool
+is_owner session None = false
+is_owner session (Some k) = k == session
+
+-- whether a node is there and a session owns it
+abbrev pub is_owned : ℕ → Option Node → Bool
+is_owned session None = false
+is_owned session (Some n) = is_owner session n.owner
+
+-- a session's end takes its ephemeral nodes, as one change
+unfoldable pub without_session : Nodes → ℕ → Nodes
+without_session t session = retain_keys t (λ path. not (is_owned session (get t path)))

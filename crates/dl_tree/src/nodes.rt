@@ -1,0 +1,158 @@
+ghost use Rattle.std.specs.Prelude.{◌≡◌, ℕ, IfOk, OnOk, OnErr, Some, None, List, ◌||◌, is_none};
+ghost use Rattle.std.specs.Option.{option_copied};
+ghost use Rattle.std.specs.FinMap.{get};
+ghost use Rattle.dl_tree.specs.Slots.{put, tree_in, has_slot};
+ghost use Rattle.dl_tree.specs.Trees.{root_alone, without_session, is_owned, child_names};
+
+use crate::node::Node;
+use crate::paths::{below, is_below, name};
+use dl_types::body::Body;
+use dl_types::memory::NoMemory;
+use dl_types::path::Path;
+use std::alloc::Global;
+use std::collections::BTreeMap;
+use std::marker::Model;
+
+/// What a path had before a change.
+#[derive(Drop)]
+pub(crate) struct Change {
+    path: Path,
+    before: Option<Node>,
+}
+
+/// The nodes of a tree, with a way back to an earlier tree. A path has a slot, which holds its node or none. Contracts
+/// see the tree now and the tree to go back to.
+#[derive(Drop)]
+pub(crate) struct Nodes {
+    slots: BTreeMap<Path, Option<Node>>,
+    changes: Vec<Change>,
+}
+
+impl Model for Nodes {
+    ghost use Rattle.std.specs.Coded.{coded×};
+    ghost use Rattle.dl_tree.specs.Trees.{Nodes as Seen};
+    ghost use Rattle.dl_tree.specs.Slots.{nodes_code, tree_in, undone, Covers};
+
+    ghost Value = { Seen × Seen };
+
+    ghost coded = { coded× nodes_code nodes_code };
+
+    ghost view = { λ a. (tree_in a.slots.entries, undone (tree_in a.slots.entries) a.changes.items) };
+
+    ghost invariant = { λ a. Covers a.slots.entries a.changes.items };
+}
+
+/// Takes a slot out where it holds no node.
+fn sweep(slots: &mut BTreeMap<Path, Option<Node>>, path: &Path)
+    ensures { tree_in slots.new.entries ≡ tree_in slots.old.entries }
+{
+    if let Some(None) = slots.get(path) {
+        let _ = slots.remove(path);
+    }
+}
+
+/// Puts back what a path had before a change. The path has a slot, so no memory is taken.
+fn restore(slots: &mut BTreeMap<Path, Option<Node>>, path: Path, before: Option<Node>)
+    requires { has_slot slots.old.entries path }
+    ensures tree { tree_in slots.new.entries ≡ put (tree_in slots.old.entries) path before }
+    ensures kept { (q : List ℕ) → has_slot slots.old.entries q → has_slot slots.new.entries q }
+{
+    let _ = slots.insert(path, before);
+}
+
+impl Nodes {
+    /// The root alone.
+    pub(crate) fn new(alloc: Global) -> Result<Nodes, NoMemory>
+        ensures { IfOk result (λ nodes. nodes ≡ (root_alone, root_alone)) }
+    {
+        let root = Node {
+            bytes: Body::new(alloc, b"")?,
+            version: 0,
+            owner: None,
+            counter: 0,
+        };
+        let path = Path::new(alloc, b"/")?;
+        let mut slots = BTreeMap::new(alloc);
+        slots.insert(path, Some(root))?;
+        Ok(Nodes {
+            slots,
+            changes: Vec::new(alloc),
+        })
+    }
+
+    /// The node at a path.
+    pub(crate) fn get(&self, path: &Path) -> Option<&Node>
+        ensures { option_copied result ≡ get self.now.0 path.now }
+    {
+        match self.slots.get(path) {
+            Some(Some(node)) => Some(node),
+            Some(None) => None,
+            None => None,
+        }
+    }
+
+    /// Puts a node, or none, at a path.
+    pub(crate) fn put(&mut self, path: &Path, node: Option<Node>) -> Result<(), NoMemory>
+        ensures ok { OnOk result (self.new ≡ (put self.old.0 path.now node, self.old.1)) }
+        ensures err { OnErr result (self.new ≡ self.old) }
+    {
+        let key = path.share()?;
+        let path = path.share()?;
+        self.changes.try_reserve(1)?;
+        let before = self.slots.insert(key, node)?.flatten();
+        // Room was made for it.
+        let _ = self.changes.push(Change { path, before });
+        Ok(())
+    }
+
+    /// The names of a node's children, in byte order.
+    pub(crate) fn children(&self, alloc: Global, path: &Path) -> Result<Vec<Path>, NoMemory>
+        ensures { IfOk result (λ names. names.items ≡ child_names self.now.0 path.now) }
+    {
+        let prefix = below(alloc, path.as_slice())?;
+        let mut names = Vec::new(alloc);
+        for (child, slot) in &self.slots {
+            if slot.is_some() && is_below(prefix.as_slice(), child.as_slice()) {
+                names.push(name(alloc, child.as_slice())?)?;
+            }
+        }
+        Ok(names)
+    }
+
+    /// Keeps the tree as it is: there is no way back.
+    pub(crate) fn keep(&mut self)
+        ensures { self.new ≡ (self.old.0, self.old.0) }
+    {
+        while let Some(change) = self.changes.pop() {
+            sweep(&mut self.slots, &change.path);
+        }
+    }
+
+    /// Goes back to the earlier tree.
+    pub(crate) fn back(&mut self)
+        ensures { self.new ≡ (self.old.1, self.old.1) }
+    {
+        while let Some(change) = self.changes.pop() {
+            let Change { path, before } = change;
+            restore(&mut self.slots, path, before);
+        }
+    }
+
+    /// Takes out the nodes that a session owns, as one change.
+    pub(crate) fn drop_owned(&mut self, session: u64)
+        ensures { self.new ≡ (without_session self.old.0 session, without_session self.old.0 session) }
+    {
+        self.changes.clear();
+        self.slots.retain(|_path, slot| !is_owned(session, slot));
+    }
+}
+
+/// Whether a slot holds a node that a session owns, or none.
+fn is_owned(session: u64, slot: &Option<Node>) -> bool
+    ensures { result ≡ (is_owned session slot.now || is_none slot.now) }
+{
+    match slot {
+        Some(node) => node.owner == Some(session),
+        None => true,
+    }
+}

@@ -1,0 +1,92 @@
+ghost use Rattle.std.specs.Prelude.{◌≡◌, ℕ, ◌==◌, ◌++◌, not, ◌-◌, ◌≤◌, length, IfOk, OnOk, bytes_eq};
+ghost use Rattle.dl_tree.specs.Paths.{name_length, name_of, front_of, parent_of, below, is_below, digits, root};
+
+use dl_types::memory::NoMemory;
+use dl_types::path::Path;
+use std::alloc::Global;
+
+/// How many bytes stand after the last slash.
+fn name_length(path: &[u8]) -> usize
+    ensures { result ≡ name_length path.now }
+{
+    path.iter().rev().take_while(|byte| **byte != b'/').count()
+}
+
+/// Where the last part begins.
+fn name_start(path: &[u8]) -> usize
+    ensures start { result ≡ length path.now - name_length path.now }
+    ensures within { result ≤ length path.now }
+{
+    path.len().saturating_sub(name_length(path))
+}
+
+/// The last part, without its slash.
+#[tactic(auto, unfolding(crate::specs::Paths::name_of))]
+pub(crate) fn name(alloc: Global, path: &[u8]) -> Result<Path, NoMemory>
+    ensures { IfOk result (λ name. name ≡ name_of path.now) }
+{
+    Path::new(alloc, &path[name_start(path)..])
+}
+
+/// Whether a path is this beginning and one more part.
+#[tactic(auto, unfolding(crate::specs::Paths::name_of, crate::specs::Paths::front_of))]
+pub(crate) fn is_below(prefix: &[u8], path: &[u8]) -> bool
+    ensures { result ≡ is_below prefix.now path.now }
+{
+    let start = name_start(path);
+    let name = &path[start..];
+    &path[..start] == prefix && !name.is_empty()
+}
+
+/// With which the path of each child of a node begins.
+pub(crate) fn below(alloc: Global, path: &[u8]) -> Result<Vec<u8>, NoMemory>
+    ensures { IfOk result (λ prefix. prefix.items ≡ below path.now) }
+{
+    let mut prefix = Vec::new(alloc);
+    if !is_root(path) {
+        prefix.extend_from_slice(path)?;
+    }
+    prefix.push(b'/')?;
+    Ok(prefix)
+}
+
+/// Whether a path is the root's.
+pub(crate) fn is_root(path: &[u8]) -> bool
+    ensures { result ≡ bytes_eq path.now root }
+{
+    path == b"/".as_slice()
+}
+
+/// The path of a node's parent.
+#[tactic(auto, unfolding(crate::specs::Paths::parent_of))]
+pub(crate) fn parent(alloc: Global, path: &[u8]) -> Result<Path, NoMemory>
+    ensures { IfOk result (λ parent. parent ≡ parent_of path.now) }
+{
+    let start = name_start(path);
+    if start == 1 {
+        return Path::new(alloc, b"/");
+    }
+    Path::new(alloc, &path[..start.saturating_sub(1)])
+}
+
+/// Puts the last digits of a number, so many, at the end.
+fn put_digits(text: &mut Vec<u8>, count: u8, number: u64) -> Result<(), NoMemory>
+    ensures { OnOk result (text.new.items ≡ text.old.items ++ digits count number) }
+{
+    if count == 0 {
+        return Ok(());
+    }
+    put_digits(text, count - 1, number / 10)?;
+    text.push(b'0' + (number % 10) as u8)?;
+    Ok(())
+}
+
+/// The path with ten digits of a number added.
+pub(crate) fn with_digits(alloc: Global, path: &[u8], number: u64) -> Result<Path, NoMemory>
+    ensures { IfOk result (λ made. made ≡ path.now ++ digits 10 number) }
+{
+    let mut text = Vec::new(alloc);
+    text.extend_from_slice(path)?;
+    put_digits(&mut text, 10, number)?;
+    Path::from_vec(text)
+}
