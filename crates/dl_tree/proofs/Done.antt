@@ -1,17 +1,14 @@
 -- What an operation that succeeded met and leaves.
-use Rattle.std.proofs.Common.{◌≡◌, ℕ, suc, ◌+◌, ◌<◌, ◌≤◌, ◌-◌, ◌^◌, Bool, true, false, cond, not, ◌&&◌, ◌||◌, ◌==◌, nat_le, List, [], ◌∷◌, ◌++◌, length, map, Option, Some, None, Result, Ok, Err, refl, sym, ap, ◌∙◌, subst, arith, is_some, bytes_eq}
-use Rattle.std.proofs.lemmas.Bool.{true≢false}
+use Rattle.std.proofs.Common.{◌≡◌, ℕ, ◌+◌, ◌-◌, ◌^◌, Bool, true, false, cond, not, ◌&&◌, ◌==◌, nat_le, List, length, Option, Some, None, Result, Ok, Err, refl, sym, ap, is_some, bytes_eq}
 use Rattle.std.specs.FinMap.{get, insert, remove}
 use Rattle.dl_types.specs.declared.mode.Mode.{Mode}
-use Rattle.dl_types.specs.declared.one_op.OneOp.{OneOp}
 use Rattle.dl_types.specs.declared.one_op.OneOp.TheVariants.{Create, Delete, Set, Check, Get, Children}
 use Rattle.dl_types.specs.declared.one_answer.OneAnswer.{OneAnswer}
-use Rattle.dl_types.specs.declared.one_answer.OneAnswer.TheVariants.{Made, Done, Version, Bytes, Names}
-use Rattle.dl_types.specs.declared.why.Why.{Why}
-use Rattle.dl_types.specs.declared.why.Why.TheVariants.{NoNode, NodeExists, BadVersion, NotEmpty, EphemeralParent, Spent}
+use Rattle.dl_types.specs.declared.one_answer.OneAnswer.TheVariants.{Made, Done}
+use Rattle.dl_types.specs.declared.why.Why.TheVariants.{NodeExists, BadVersion, NotEmpty, EphemeralParent, Spent}
 use Rattle.dl_tree.specs.declared.node.Node.{Node}
 use Rattle.dl_tree.specs.Paths.{parent_of, root}
-use Rattle.dl_tree.specs.Trees.{Nodes, Outcome, fits, create, created, set, delete, check, bytes_at, names, children, child_names, one, made_path, owner_of, is_counted, counted_up, new_node, parent_in}
+use Rattle.dl_tree.specs.Trees.{Nodes, Outcome, fits, create, created, set, delete, check, bytes_at, names, child_names, one, made_path, is_counted, counted_up, new_node, parent_in}
 
 pub guard_ok : {A E : Type 0} (b : Bool) (d : E) (x : Result A E) (y : A) → cond b (Err d) x ≡ Ok y → x ≡ Ok y
 guard_ok true d x y e = absurd (cc)

@@ -1,9 +1,9 @@
 -- The laws of requests on the tree.
-use Rattle.std.proofs.Common.{◌≡◌, ℕ, ◌+◌, ◌≤◌, Bool, true, false, cond, not, ◌==◌, List, [], ◌∷◌, ◌++◌, Option, Some, None, Result, Ok, Err, refl, sym, ap, ◌∙◌, subst, arith, inl, inr, ◌⊎◌}
-use Rattle.std.proofs.lemmas.Bool.{true≢false, cond-true, cond-false, cases_Bool, ne_eqb}
+use Rattle.std.proofs.Common.{◌≡◌, ℕ, ◌+◌, ◌≤◌, Bool, true, false, cond, not, List, [], ◌∷◌, Option, Some, None, Ok, Err, refl, sym, ap, ◌∙◌, subst, arith, inl, inr, ◌⊎◌}
+use Rattle.std.proofs.lemmas.Bool.{cond-true, cond-false, cases_Bool, ne_eqb}
 use Rattle.std.proofs.lemmas.Option.{same_Some, none-some}
 use Rattle.std.proofs.lemmas.Map.Lookups.{exact_bytes}
-use Rattle.std.specs.FinMap.{get, insert, remove, get-retain_keys}
+use Rattle.std.specs.FinMap.{get, get-retain_keys}
 use Rattle.dl_types.specs.declared.mode.Mode.{Mode}
 use Rattle.dl_types.specs.declared.mode.Mode.TheVariants.{Lasting, Ephemeral, Counted, EphemeralCounted}
 use Rattle.dl_types.specs.declared.one_op.OneOp.{OneOp}
@@ -11,7 +11,6 @@ use Rattle.dl_types.specs.declared.one_op.OneOp.TheVariants.{Create, Delete, Set
 use Rattle.dl_types.specs.declared.meta_op.MetaOp.{MetaOp}
 use Rattle.dl_types.specs.declared.meta_op.MetaOp.TheVariants as op
 use Rattle.dl_types.specs.declared.one_answer.OneAnswer.{OneAnswer}
-use Rattle.dl_types.specs.declared.meta_answer.MetaAnswer.{MetaAnswer}
 use Rattle.dl_types.specs.declared.meta_answer.MetaAnswer.TheVariants as answer
 use Rattle.dl_types.specs.declared.why.Why.{Why}
 use Rattle.dl_tree.specs.declared.node.Node.{Node}
@@ -19,8 +18,8 @@ use Rattle.dl_tree.specs.Paths.{parent_of}
 use Rattle.dl_tree.specs.Trees.{Nodes, Outcome, Run, one, all, applied, after_one, after_all, then_rest, with_front, is_owner, is_owned, without_session, made_path, counted_up, new_node, owner_of, is_counted}
 use Rattle.dl_tree.specs.Slots.{put}
 use Rattle.dl_tree.specs.Laws.{set_node, OwnsNone}
-use Rattle.dl_tree.proofs.MapLemmas.{same_path, path_is, path_itself, path_other, get-put, get-put_same, get-put_other}
-use Rattle.dl_tree.proofs.Done.{IsSet, set_done, IsCreated, create_done, delete_done, check_done, get_done, children_done}
+use Rattle.dl_tree.proofs.MapLemmas.{same_path, path_is, get-put, get-put_same, get-put_other}
+use Rattle.dl_tree.proofs.Done.{set_done, IsCreated, create_done, delete_done, check_done, get_done, children_done}
 
 one_whole : (t : Nodes) (r : Outcome) (place : ℕ) (why : Why) → (after_one t r).0 ≡ answer.Failed place why → (after_one t r).1 ≡ t
 one_whole t (Ok r) place why e = absurd (cc)

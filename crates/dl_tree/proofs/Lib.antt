@@ -6,3 +6,4 @@ pub mod NameLemmas
 pub mod DigitLemmas
 pub mod RunLemmas
 pub mod PartLemmas
+pub mod RangeLemmas

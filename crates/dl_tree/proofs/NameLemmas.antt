@@ -1,26 +1,28 @@
 -- The names of a node's children among slots in order.
-use Rattle.std.proofs.Common.{◌≡◌, ℕ, Bool, true, false, cond, not, ◌&&◌, List, [], ◌∷◌, ◌++◌, length, map, filter, Option, Some, None, is_some, refl, sym, ap, ◌∙◌, subst, arith, inl, inr, ◌⊎◌, ap₂, append_assoc}
+use Rattle.std.proofs.Common.{◌≡◌, ℕ, Bool, true, false, cond, ◌&&◌, List, [], ◌∷◌, ◌++◌, length, map, filter, Option, Some, None, is_some, refl, sym, ap, ◌∙◌, arith, inl, inr, ◌⊎◌, ap₂, append_assoc}
 use Rattle.std.proofs.lemmas.Bool.{cond-true, cond-false, cases_Bool}
 use Rattle.std.proofs.lemmas.List.{append-nil}
 use Rattle.std.specs.Option.{option_flatten}
 use Rattle.std.specs.Cmp.Lexicographic.{slice_cmp, nat_list_cmp_total}
 use Rattle.std.specs.Ordering.{nat_cmp, is_eq}
-use Rattle.std.specs.declared.cmp.Ordering.{Ordering}
 use Rattle.std.specs.declared.cmp.Ordering.TheVariants.{Less}
 use Rattle.std.specs.List.{AllByRecursion}
 use Rattle.std.specs.List.Sorted.{IsStrictlySortedBy}
 use Rattle.std.specs.BTreeMap.{is_at}
-use Rattle.std.specs.Map.{keys_of, lookup}
+use Rattle.std.specs.BTreeMap.Range.{entries_between}
+use Rattle.std.specs.declared.ops.Bound.TheVariants.{Included, Excluded}
+use Rattle.std.specs.Map.{keys_of}
 use Rattle.std.proofs.lemmas.Map.{NonePasses, lookup-none}
 use Rattle.std.proofs.lemmas.Map.Keys.{sorted_head, sorted_tail}
-use Rattle.std.specs.FinMap.{get, keys, entries, entries-insert, empty, len-entries, len-empty}
+use Rattle.std.specs.FinMap.{get, entries, entries-insert, empty, len-entries, len-empty}
 use Rattle.std.specs.FinMap as map
 use Rattle.dl_tree.specs.declared.node.Node.{Node}
-use Rattle.dl_tree.specs.Paths.{name_of, is_below, below}
-use Rattle.dl_tree.specs.Trees.{Nodes, children, child_names}
+use Rattle.dl_tree.specs.Paths.{name_of, is_below, below, past_below}
+use Rattle.dl_tree.specs.Trees.{Nodes, child_names}
 use Rattle.dl_tree.specs.Slots.{put, tree_in, names_in}
 use Rattle.dl_tree.proofs.MapLemmas.{same_path, path_is, get-put, same_tree}
-use Rattle.dl_tree.proofs.SlotLemmas.{slot_at, get-tree_in}
+use Rattle.dl_tree.proofs.SlotLemmas.{get-tree_in}
+use Rattle.dl_tree.proofs.RangeLemmas.{names-between}
 
 -- the entries with nodes
 abbrev onto_live : List ℕ → Option Node → List (List ℕ × Node) → List (List ℕ × Node)
@@ -118,10 +120,13 @@ and_false false y e = refl
 pub names_other : (prefix p a b : List ℕ) (o : Option Node) (es fs : List (List ℕ × Option Node)) (names all : List (List ℕ)) (r : Bool) → a ≡ prefix → b ≡ p → r ≡ is_below a b → r ≡ false → es ≡ (p, o) ∷ fs → names ++ names_in prefix es ≡ all → names ++ names_in prefix fs ≡ all
 names_other prefix p a b o es fs names all r pa pb ra rt e inv = names_no prefix p o es fs names all (and_false (is_some o) (is_below prefix p) (ap₂ is_below (sym pa) (sym pb) ∙ sym ra ∙ rt)) e inv
 
-pub names_start : (es iter : List (List ℕ × Option Node)) (prefix a path : List ℕ) (names : List (List ℕ)) (now : Nodes × Nodes) (before : Nodes) → IsStrictlySortedBy (slice_cmp nat_cmp) (keys_of es) → ◌≡◌ {A = Nodes × Nodes} (tree_in es, before) now → iter ≡ es
-    → prefix ≡ below a → a ≡ path → names ≡ [] → names ++ names_in prefix iter ≡ child_names now.0 path
-names_start es iter prefix a path names now before s is i p a' n =
-    ap (λ (t : List (List ℕ)). t ++ names_in prefix iter) n ∙ ap₂ (λ (x : List ℕ) (t : List (List ℕ × Option Node)). names_in x t) (p ∙ ap below a') i ∙ names-tree_in es path now before s is
+-- the walk over the slots below a path begins
+pub names_start : (es iter : List (List ℕ × Option Node)) (path first end : List ℕ) (names : List (List ℕ)) (now : Nodes × Nodes) (before : Nodes) → IsStrictlySortedBy (slice_cmp nat_cmp) (keys_of es) → ◌≡◌ {A = Nodes × Nodes} (tree_in es, before) now
+    → first ≡ below path → end ≡ past_below path → iter ≡ entries_between (slice_cmp nat_cmp) (Included first) (Excluded end) es → names ≡ [] → names ++ names_in (below path) iter ≡ child_names now.0 path
+names_start es iter path first end names now before s is f l i n =
+    ap (λ (t : List (List ℕ)). t ++ names_in (below path) iter) n
+    ∙ ap (names_in (below path)) (i ∙ ap₂ (λ (x y : List ℕ). entries_between (slice_cmp nat_cmp) (Included x) (Excluded y) es) f l)
+    ∙ names-between path es ∙ names-tree_in es path now before s is
 
 pub names_end : (prefix : List ℕ) (es : List (List ℕ × Option Node)) (names all : List (List ℕ)) → es ≡ [] → names ++ names_in prefix es ≡ all → names ≡ all
 names_end prefix es names all e inv = sym (append-nil names) ∙ ap (λ (t : List (List ℕ × Option Node)). names ++ names_in prefix t) (sym e) ∙ inv

@@ -5,7 +5,7 @@ use Rattle.dl_tree.specs.declared.fault.OneFault.{OneFault}
 use Rattle.dl_tree.specs.declared.fault.OneFault.TheVariants.{NoMemory, Failed}
 use Rattle.dl_tree.specs.declared.fault.RunFault.{RunFault}
 use Rattle.dl_tree.specs.declared.fault.RunFault.TheVariants as run
-use Rattle.dl_tree.specs.Trees.{Outcome, Run, Nodes}
+use Rattle.dl_tree.specs.Trees.{Outcome, Run}
 
 -- a failure is the outcome; want of memory says nothing of it
 abbrev pub IsFault : Outcome → OneFault → Type 0

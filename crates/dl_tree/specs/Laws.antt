@@ -1,5 +1,5 @@
 -- What holds of each request on the tree.
-use Rattle.std.specs.Prelude.{◌≡◌, ℕ, ◌+◌, ◌≤◌, List, Some, Ok, Bool, false, Option}
+use Rattle.std.specs.Prelude.{◌≡◌, ℕ, ◌+◌, ◌≤◌, List, Some, Ok, false, Option}
 use Rattle.std.specs.FinMap.{get}
 use Rattle.dl_types.specs.declared.one_op.OneOp.{OneOp}
 use Rattle.dl_types.specs.declared.one_op.OneOp.TheVariants.{Set}

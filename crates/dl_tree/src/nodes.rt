@@ -5,7 +5,7 @@ ghost use Rattle.dl_tree.specs.Slots.{put, tree_in, has_slot};
 ghost use Rattle.dl_tree.specs.Trees.{root_alone, without_session, is_owned, child_names};
 
 use crate::node::Node;
-use crate::paths::{below, is_below, name};
+use crate::paths::{below, is_below, name, past_below};
 use dl_types::body::Body;
 use dl_types::memory::NoMemory;
 use dl_types::path::Path;
@@ -26,6 +26,8 @@ pub(crate) struct Change {
 pub(crate) struct Nodes {
     slots: BTreeMap<Path, Option<Node>>,
     changes: Vec<Change>,
+    /// The paths that changed since the tree was kept or went back: the others have no empty slot.
+    touched: Vec<Path>,
 }
 
 impl Model for Nodes {
@@ -48,6 +50,15 @@ fn sweep(slots: &mut BTreeMap<Path, Option<Node>>, path: &Path)
 {
     if let Some(None) = slots.get(path) {
         let _ = slots.remove(path);
+    }
+}
+
+/// Takes out the slots at these paths that hold no node.
+fn sweep_all(slots: &mut BTreeMap<Path, Option<Node>>, paths: &mut Vec<Path>)
+    ensures { tree_in slots.new.entries ≡ tree_in slots.old.entries }
+{
+    while let Some(path) = paths.pop() {
+        sweep(slots, &path);
     }
 }
 
@@ -77,6 +88,7 @@ impl Nodes {
         Ok(Nodes {
             slots,
             changes: Vec::new(alloc),
+            touched: Vec::new(alloc),
         })
     }
 
@@ -97,6 +109,7 @@ impl Nodes {
         ensures err { OnErr result (self.new ≡ self.old) }
     {
         let key = path.share()?;
+        self.touched.push(path.share()?)?;
         let path = path.share()?;
         self.changes.try_reserve(1)?;
         let before = self.slots.insert(key, node)?.flatten();
@@ -105,14 +118,16 @@ impl Nodes {
         Ok(())
     }
 
-    /// The names of a node's children, in byte order.
+    /// The names of a node's children, in byte order. It looks at the slots below the node alone, children and what stands
+    /// below them: none where nothing does.
     pub(crate) fn children(&self, alloc: Global, path: &Path) -> Result<Vec<Path>, NoMemory>
         ensures { IfOk result (λ names. names.items ≡ child_names self.now.0 path.now) }
     {
-        let prefix = below(alloc, path.as_slice())?;
+        let first = below(alloc, path.as_slice())?;
+        let end = past_below(alloc, path.as_slice())?;
         let mut names = Vec::new(alloc);
-        for (child, slot) in &self.slots {
-            if slot.is_some() && is_below(prefix.as_slice(), child.as_slice()) {
+        for (child, slot) in self.slots.range(&first..&end) {
+            if slot.is_some() && is_below(first.as_slice(), child.as_slice()) {
                 names.push(name(alloc, child.as_slice())?)?;
             }
         }
@@ -123,12 +138,12 @@ impl Nodes {
     pub(crate) fn keep(&mut self)
         ensures { self.new ≡ (self.old.0, self.old.0) }
     {
-        while let Some(change) = self.changes.pop() {
-            sweep(&mut self.slots, &change.path);
-        }
+        self.changes.clear();
+        sweep_all(&mut self.slots, &mut self.touched);
     }
 
-    /// Goes back to the earlier tree.
+    /// Goes back to the earlier tree. A slot stays until the last of its path's changes is undone, so that no memory is
+    /// taken; then empty slots go, and nothing is left of a request that failed.
     pub(crate) fn back(&mut self)
         ensures { self.new ≡ (self.old.1, self.old.1) }
     {
@@ -136,6 +151,7 @@ impl Nodes {
             let Change { path, before } = change;
             restore(&mut self.slots, path, before);
         }
+        sweep_all(&mut self.slots, &mut self.touched);
     }
 
     /// Takes out the nodes that a session owns, as one change.
@@ -143,6 +159,7 @@ impl Nodes {
         ensures { self.new ≡ (without_session self.old.0 session, without_session self.old.0 session) }
     {
         self.changes.clear();
+        self.touched.clear();
         self.slots.retain(|_path, slot| !is_owned(session, slot));
     }
 }

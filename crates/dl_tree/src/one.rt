@@ -204,7 +204,7 @@ fn is_rootless(path: &Path, mode: Mode) -> bool
     is_root(path.as_slice()) && !is_counted(mode)
 }
 
-/// A deletion.
+/// A deletion. A node without children has no slots below it, so that its deletion is a few looks.
 pub(crate) fn delete(
     nodes: &mut Nodes,
     alloc: Global,
@@ -217,15 +217,13 @@ pub(crate) fn delete(
 {
     match nodes.get(path) {
         Some(node) => {
-            let children = nodes.children(alloc, path)?;
-            let count = children.len() as u64;
-            if is_root(path.as_slice()) {
-                return Err(OneFault::Failed(Why::NotEmpty(count)));
-            }
-            if !fits(version, node) {
+            let is_root = is_root(path.as_slice());
+            if !is_root && !fits(version, node) {
                 return Err(OneFault::Failed(Why::BadVersion(node.version)));
             }
-            if count != 0 {
+            let children = nodes.children(alloc, path)?;
+            let count = children.len() as u64;
+            if is_root || count != 0 {
                 return Err(OneFault::Failed(Why::NotEmpty(count)));
             }
             nodes.put(path, None)?;

@@ -1,5 +1,5 @@
 ghost use Rattle.std.specs.Prelude.{◌≡◌, ℕ, ◌==◌, ◌++◌, not, ◌-◌, ◌≤◌, length, IfOk, OnOk, bytes_eq};
-ghost use Rattle.dl_tree.specs.Paths.{name_length, name_of, front_of, parent_of, below, is_below, digits, root};
+ghost use Rattle.dl_tree.specs.Paths.{name_length, name_of, front_of, parent_of, extended, below, past_below, is_below, digits, root};
 
 use dl_types::memory::NoMemory;
 use dl_types::path::Path;
@@ -38,16 +38,30 @@ pub(crate) fn is_below(prefix: &[u8], path: &[u8]) -> bool
     &path[..start] == prefix && !name.is_empty()
 }
 
-/// With which the path of each child of a node begins.
-pub(crate) fn below(alloc: Global, path: &[u8]) -> Result<Vec<u8>, NoMemory>
-    ensures { IfOk result (λ prefix. prefix.items ≡ below path.now) }
+/// A path, without the slash that is the root's, and one more byte.
+fn extended(alloc: Global, path: &[u8], byte: u8) -> Result<Path, NoMemory>
+    ensures { IfOk result (λ made. made ≡ extended path.now byte) }
 {
-    let mut prefix = Vec::new(alloc);
+    let mut text = Vec::new(alloc);
     if !is_root(path) {
-        prefix.extend_from_slice(path)?;
+        text.extend_from_slice(path)?;
     }
-    prefix.push(b'/')?;
-    Ok(prefix)
+    text.push(byte)?;
+    Path::from_vec(text)
+}
+
+/// With which the path of each child of a node begins.
+pub(crate) fn below(alloc: Global, path: &[u8]) -> Result<Path, NoMemory>
+    ensures { IfOk result (λ prefix. prefix ≡ below path.now) }
+{
+    extended(alloc, path, b'/')
+}
+
+/// The least path, in byte order, above all that begin with the path of a node and a slash.
+pub(crate) fn past_below(alloc: Global, path: &[u8]) -> Result<Path, NoMemory>
+    ensures { IfOk result (λ end. end ≡ past_below path.now) }
+{
+    extended(alloc, path, b'0')
 }
 
 /// Whether a path is the root's.
