@@ -19,9 +19,6 @@ use Rattle.dl_depot.specs.Reads.{log_is}
 use Rattle.dl_depot.proofs.Fuses.{write_keeps, cut_keeps, stop_keeps}
 use Rattle.dl_depot.proofs.Steps.{this_file, other_file, fails, passed, stopped, now_this}
 
-some_is : {X : Type 0} (x y : X) → Some x ≡ Some y → x ≡ y
-some_is x y e = cc
-
 -- a writing call meets the rules of every depot
 works_is : (log log_after : List Entry) (held now : ℕ → Held) (file : ℕ) → ((f : ℕ) → f ≢ file → now f ≡ held f) → IsLog (reverse log) → (call : DeviceCall) (bytes : List ℕ) (result : Result (Unit {0}) DeviceFault)
     → Works file call bytes log log_after (held file) (now file) result → Writes (view_of log held) (view_of log_after now) file call bytes result

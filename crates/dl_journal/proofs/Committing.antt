@@ -261,7 +261,7 @@ stands_after a b j k body (Ok u) stands w works shown is = go (a.shown j.file) r
     fresh true was = absurd (cc (w.failed.1 was))
 
     go : (o : Option (List ℕ)) → a.shown j.file ≡ o → (batches : List Batch) × Settled b k shown batches
-    go None was = let told = w.keeps.told j.file in let same = w.file in absurd (cc (ap is_some is, told, ap is_some was, same))
+    go None was = let told = w.keeps.told j.file in let same = w.file in absurd (cc (told, ap is_some was, same))
     go (Some bytes) was =
         let before = stands (fresh j.failed refl) bytes was in
         let after = w.ok bytes before.0 before.1 in

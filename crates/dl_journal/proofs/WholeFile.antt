@@ -1,5 +1,5 @@
 -- A sync, the size, and a read of all.
-use Rattle.std.proofs.Common.{◌≡◌, inl, inr, ℕ, ◌≤◌, ◌<◌, List, [], ◌∷◌, ◌++◌, length, take, drop, Option, Some, None, Vec, Result, Ok, Err, sym, ◌∙◌, ap, subst, arith, is_some, refl, false, IsErrOf}
+use Rattle.std.proofs.Common.{◌≡◌, inl, inr, ℕ, ◌≤◌, List, [], ◌∷◌, ◌++◌, length, take, drop, Some, None, Vec, Result, Ok, Err, sym, ◌∙◌, ap, subst, arith}
 use Rattle.std.specs.declared.alloc.Global.{Global}
 use Rattle.std.proofs.lemmas.List.{take_all, append-nil}
 use Rattle.dl_depot.specs.View.{View, Keeps}
@@ -8,15 +8,9 @@ use Rattle.dl_depot.specs.declared.device_call.DeviceCall.{DeviceCall}
 use Rattle.dl_depot.specs.declared.device_call.DeviceCall.TheVariants.{Sync}
 use Rattle.dl_depot.specs.declared.device_fault.DeviceFault.{DeviceFault}
 use Rattle.dl_depot.proofs.Moments.{keeps_trans, ordered}
-use Rattle.dl_journal.specs.declared.batch.Batch.{Batch}
-use Rattle.dl_journal.specs.declared.load_fault.LoadFault.{LoadFault}
-use Rattle.dl_journal.specs.declared.load_fault.LoadFault.TheVariants.{Damaged, TooLarge, Device, NoMemory}
-use Rattle.dl_journal.specs.State.{JournalState}
+use Rattle.dl_journal.specs.declared.load_fault.LoadFault.TheVariants.{Device, NoMemory}
 use Rattle.dl_journal.specs.Stored.{Fronts}
-use Rattle.dl_journal.specs.Commits.{Settled}
-use Rattle.dl_journal.specs.Reading.{Breaks, Holds}
-use Rattle.dl_journal.specs.Parsed.{Parses}
-use Rattle.dl_journal.specs.Load.{OnDisk, Fetched, Loaded}
+use Rattle.dl_journal.specs.Load.{OnDisk, Fetched}
 use Rattle.dl_journal.proofs.Committing.{some_inj}
 use Rattle.dl_journal.proofs.Through.{rose_on}
 
@@ -98,22 +92,6 @@ look_failed a b c file r looks rose = let on = looks_on a b c file r looks in re
   unset = on.unset;
 }
 
--- the file is too large
-pub is_large : (a m b : View) (file size : ℕ) → Reached a m file → Sized m b file (Ok size) → 268435456 < size → Fetched a b file (Err (TooLarge size))
-is_large a m b file size r z large = let on = looks_on a m b file r z.looks in record {
-  keeps = on.keeps;
-  images = on.images;
-  most = tt;
-  bytes = λ was shown. tt;
-  device = λ is. absurd (cc is);
-  too_large = λ n is. let same : size ≡ n = cc in (omega (arith, large, same), λ was shown. sym same ∙ z.size was (r.disk was shown).shown);
-  no_memory = λ is. absurd (cc is);
-  not_damaged = λ at is. cc is;
-  told = λ calls are. tt;
-  fronts = fronts_of a b file on;
-  unset = on.unset;
-}
-
 -- memory ran out
 pub no_room : (a m b : View) (file size : ℕ) → Reached a m file → Sized m b file (Ok size) → size ≤ 268435456 → Fetched a b file (Err NoMemory)
 no_room a m b file size r z most = let on = looks_on a m b file r z.looks in record {
@@ -149,111 +127,4 @@ fetched a m n b file size count into vec r z l long most is short = let on = loo
   told = λ calls are. on.told calls are;
   fronts = fronts_of a b file on;
   unset = on.unset;
-}
-
--- what was read stands for batches
-settled : (b : View) (file gate next : ℕ) (bytes was : List ℕ) (batches : List Batch) → Holds bytes batches gate next → bytes ≡ was → OnDisk b file was → Settled b (record { file = file; gate = gate; next = next; failed = false }) was batches
-settled b file gate next bytes was batches h same disk = record {
-  shown = disk.shown;
-  only = disk.only;
-  last = disk.last;
-  first = h.first;
-  runs = h.runs;
-  next = h.is_next;
-  gate = h.gate;
-  shut = h.shut;
-  free = h.free;
-  spelled = sym same ∙ h.spelled;
-  place = h.place;
-}
-
-pub loaded : (a b : View) (file gate next : ℕ) (vec : Vec ℕ Global) (batches : Vec Batch Global) (j : JournalState) → Fetched a b file (Ok vec) → Holds vec.items batches.items gate next → j ≡ record { file = file; gate = gate; next = next; failed = false }
-    → Loaded a b file (Ok (j, batches))
-loaded a b file gate next vec batches j f h is = subst (λ (x : JournalState). Loaded a b file (Ok (x, batches))) (sym is) (record {
-  keeps = f.keeps;
-  images = f.images;
-  ok = λ was shown. let two = f.bytes was shown in settled b file gate next vec.items was batches.items h two.0 two.1;
-  fits = λ was shown. let same = ap length (f.bytes was shown).0 in let most = f.most in omega (arith, same, most);
-  same = refl;
-  works = refl;
-  stands = λ works shown is. go (a.shown file) refl shown is;
-  damaged = λ at is. absurd (cc is);
-  too_large = λ n is. absurd (cc is);
-  no_memory = λ is. absurd (cc is);
-  device = λ is. absurd (cc is);
-  told = f.told;
-  fronts = f.fronts;
-  unset = f.unset;
-})
-  where
-    go : (o : Option (List ℕ)) → a.shown file ≡ o → (shown : List ℕ) → b.shown file ≡ Some shown → (bs : List Batch) × Settled b (record { file = file; gate = gate; next = next; failed = false }) shown bs
-    go None was shown is = let told = f.keeps.told file in absurd (cc (ap is_some is, told, ap is_some was))
-    go (Some bytes) was shown is =
-        let two = f.bytes bytes was in
-        let s = settled b file gate next vec.items bytes batches.items h two.0 two.1 in
-        (batches.items, subst (λ (l : List ℕ). Settled b (record { file = file; gate = gate; next = next; failed = false }) l batches.items) (some_inj _ _ (sym s.shown ∙ is)) s)
-
--- a fault is one whatever else could have been answered
-turn : {X Y : Type 0} (e x : LoadFault) → IsErrOf {T = X} {E = LoadFault} (Err e) x → IsErrOf {T = Y} {E = LoadFault} (Err e) x
-turn {X} {Y} e x is = let same : e ≡ x = cc in subst (λ (y : LoadFault). IsErrOf {T = Y} {E = LoadFault} (Err e) y) same refl
-
--- it wasn't read
-pub not_fetched : (a b : View) (file : ℕ) (e : LoadFault) → Fetched a b file (Err e) → Loaded a b file (Err e)
-not_fetched a b file e f = record {
-  keeps = f.keeps;
-  images = f.images;
-  ok = λ was shown. tt;
-  fits = λ was shown. tt;
-  same = tt;
-  works = tt;
-  stands = tt;
-  damaged = λ at is. absurd (f.not_damaged at (turn e (Damaged at) is));
-  too_large = λ n is. f.too_large n (turn e (TooLarge n) is);
-  no_memory = λ is. f.no_memory (turn e NoMemory is);
-  device = λ is. f.device (turn e Device is);
-  told = λ calls are. tt;
-  fronts = f.fronts;
-  unset = f.unset;
-}
-
--- or it breaks the layout
-pub not_parsed : (a b : View) (file : ℕ) (vec : Vec ℕ Global) (e : LoadFault) → Fetched a b file (Ok vec) → Parses vec.items (Err e) → Loaded a b file (Err e)
-not_parsed a b file vec (TooLarge n) f p = absurd p
-not_parsed a b file vec Device f p = absurd p
-not_parsed a b file vec NoMemory f p = record {
-  keeps = f.keeps;
-  images = f.images;
-  ok = λ was shown. tt;
-  fits = λ was shown. tt;
-  same = tt;
-  works = tt;
-  stands = tt;
-  damaged = λ at is. absurd (cc is);
-  too_large = λ n is. absurd (cc is);
-  no_memory = λ is was shown. let same = ap length (f.bytes was shown).0 in let most = f.most in omega (arith, same, most);
-  device = λ is. absurd (cc is);
-  told = λ calls are. tt;
-  fronts = f.fronts;
-  unset = f.unset;
-}
-not_parsed a b file vec (Damaged at) f p = record {
-  keeps = f.keeps;
-  images = f.images;
-  ok = λ was shown. tt;
-  fits = λ was shown. tt;
-  same = tt;
-  works = tt;
-  stands = tt;
-  damaged = λ n is was shown.
-      let place : at ≡ n = cc in
-      let same = (f.bytes was shown).0 in
-      let size = ap length same in
-      let most = f.most in
-      (omega (arith, size, most), subst (λ (k : ℕ). Breaks was k) place (subst (λ (l : List ℕ). Breaks l at) same p));
-  too_large = λ n is. absurd (cc is);
-  no_memory = λ is. absurd (cc is);
-  device = λ is. absurd (cc is);
-  told = λ calls are. tt;
-  fronts = f.fronts;
-  unset = f.unset;
 }

@@ -73,6 +73,7 @@ fn a_stop_leaves_the_batch_or_not(rt: HostRuntime) -> Result<(), Fail> {
             is_left,
             "stopped in call {call}, {outcome:?}"
         );
+        assert_eq!(rt; batches.is_empty(), !is_left);
     }
     Ok(())
 }
@@ -97,17 +98,19 @@ fn a_fault_leaves_the_batch_or_not(rt: HostRuntime) -> Result<(), Fail> {
         }
         let (_, batches) = load(rt.alloc(), &mut depot, file)?;
         assert_eq!(rt; is_abc(&batches), is_left, "call {call} fails");
+        assert_eq!(rt; batches.is_empty(), !is_left);
     }
     Ok(())
 }
 
-fn damage_of(rt: &impl AllocGlobal, bytes: &[u8]) -> Result<Option<u64>, Fail> {
+// How many batches are in force in these bytes, or the place at which they are damaged.
+fn batches_in(rt: &impl AllocGlobal, bytes: &[u8]) -> Result<Result<usize, u64>, Fail> {
     let file = FileId::new(1);
     let mut depot = MemDepot::new(rt.alloc())?;
     depot.write_at(file, 0, bytes)?;
     match load(rt.alloc(), &mut depot, file) {
-        Ok(_) => Ok(None),
-        Err(LoadFault::Damaged(at)) => Ok(Some(at)),
+        Ok((_, batches)) => Ok(Ok(batches.len())),
+        Err(LoadFault::Damaged(at)) => Ok(Err(at)),
         Err(fault) => Err(Fail::from(fault)),
     }
 }
@@ -116,29 +119,37 @@ fn damage_of(rt: &impl AllocGlobal, bytes: &[u8]) -> Result<Option<u64>, Fail> {
 fn damage_has_its_place(rt: HostRuntime) -> Result<(), Fail> {
     let one = b"DLJRNL01\x01\0\0\0\0\0\0\0\x07\0\0\0\0";
     let rows = [
-        (b"".as_slice(), Some(0)),
-        (b"DLJ", Some(0)),
-        (b"DLJRNL02\0", Some(0)),
-        (b"DLJRNL01", Some(8)),
-        (b"DLJRNL01\0", None),
-        (b"DLJRNL01\x02abc", None),
-        (b"DLJRNL01\x01\0\0", Some(9)),
-        (b"DLJRNL01\x01\x80\0\0\0\0\0\0\0\0\0\0\0\0", Some(9)),
-        (b"DLJRNL01\x01\0\0\0\0\0\0\0\0\0\0", Some(17)),
-        (b"DLJRNL01\x01\0\0\0\0\0\0\0\0\0\0\0\x05abcd", Some(17)),
-        (one, Some(21)),
-        (b"DLJRNL01\x01\0\0\0\0\0\0\0\x07\0\0\0\0\0", None),
+        (b"".as_slice(), Err(0)),
+        (b"DLJ", Err(0)),
+        (b"DLJRNL02\0", Err(0)),
+        (b"DLJRNL01", Err(8)),
+        (b"DLJRNL01\0", Ok(0)),
+        (b"DLJRNL01\x02abc", Ok(0)),
+        (b"DLJRNL01\x01\0\0", Err(9)),
+        (b"DLJRNL01\x01\x80\0\0\0\0\0\0\0\0\0\0\0\0", Err(9)),
+        (
+            b"DLJRNL01\x01\x7f\xff\xff\xff\xff\xff\xff\xff\0\0\0\0\0",
+            Ok(1),
+        ),
+        (b"DLJRNL01\x01\0\0\0\0\0\0\0\0\0\0", Err(17)),
+        (b"DLJRNL01\x01\0\0\0\0\0\0\0\0\0\0\0\x05abcd", Err(17)),
+        (one, Err(21)),
+        (b"DLJRNL01\x01\0\0\0\0\0\0\0\x07\0\0\0\0\0", Ok(1)),
         (
             b"DLJRNL01\x01\0\0\0\0\0\0\0\x07\0\0\0\0\x01\0\0\0\0\0\0\0\x09\0\0\0\0\0",
-            Some(22),
+            Err(22),
+        ),
+        (
+            b"DLJRNL01\x01\x7f\xff\xff\xff\xff\xff\xff\xff\0\0\0\0\x01\x80\0\0\0\0\0\0\0\0\0\0\0\0",
+            Err(22),
         ),
         (
             b"DLJRNL01\x01\0\0\0\0\0\0\0\x07\0\0\0\0\x01\0\0\0\0\0\0\0\x08\0\0\0\0\0",
-            None,
+            Ok(2),
         ),
     ];
-    for (bytes, at) in rows {
-        assert_eq!(rt; damage_of(&rt, bytes)?, at, "in {bytes:?}");
+    for (bytes, wanted) in rows {
+        assert_eq!(rt; batches_in(&rt, bytes)?, wanted, "in {bytes:?}");
     }
     Ok(())
 }
