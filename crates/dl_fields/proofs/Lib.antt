@@ -1,0 +1,5 @@
+pub mod ReaderLemmas
+pub mod FieldLemmas
+pub mod CodeLemmas
+pub mod ListLemmas
+pub mod PathLemmas

@@ -1,0 +1,7 @@
+pub mod Readers
+pub mod Fields
+pub mod Codes
+pub mod Lists
+pub mod Paths
+pub mod Laws
+pub mod Outputs

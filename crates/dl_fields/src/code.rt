@@ -1,0 +1,30 @@
+ghost use Rattle.std.specs.Prelude.{◌≡◌, ℕ};
+ghost use Rattle.dl_fields.specs.Readers.{Gives};
+ghost use Rattle.dl_fields.specs.Codes.{code_from};
+
+use crate::number::u8_of;
+use crate::stop::Stop;
+
+/// A value of a closed list that stands for one byte, its code: a type of no data, one variant a code.
+pub trait Code: Copy {
+    /// The byte.
+    ghost code: { Self → ℕ };
+
+    /// The byte.
+    fn code(self) -> u8
+        ensures { result ≡ code self };
+}
+
+/// The first of the values whose code is the byte at the front, and the bytes behind it. A byte that is none of their
+/// codes is bad.
+pub fn code_of<'a, K: Code>(codes: &[K], bytes: &'a [u8]) -> Result<(K, &'a [u8]), Stop>
+    ensures { Gives (λ x. (x.0, x.1.now)) result (code_from K.code codes.now bytes.now) }
+{
+    let (byte, rest) = u8_of(bytes)?;
+    for value in codes {
+        if value.code() == byte {
+            return Ok((*value, rest));
+        }
+    }
+    Err(Stop::Bad(bytes.len()))
+}
