@@ -1,0 +1,10 @@
+use Rattle.std.proofs.Common.{◌≡◌, ◌+◌, ◌*◌, ◌≤◌, length, drop}
+use Rattle.std.specs.List.{flat_map}
+use Rattle.dl_msg.specs.Answers.{answer_bytes}
+use Rattle.dl_msg.proofs.answer.size_of_answer_items.Given as goal
+
+abbrev pub invariant-loop-answer : goal.invariant-loop-answer
+invariant-loop-answer l = record {
+  left : l.total + length (flat_map answer_bytes (drop l.answer-index l.answers)) ≡ length (flat_map answer_bytes l.answers);
+  low : l.total ≤ 352187318195 * l.answer-index;
+}

@@ -1,0 +1,15 @@
+use crate::address::Address;
+use crate::msg::Msg;
+
+/// A message with its sender and its receiver. The session is that of the client at either end.
+#[derive(Clone, Debug, Drop)]
+pub struct Letter {
+    /// Who sends it.
+    pub from: Address,
+    /// Who is to take it.
+    pub to: Address,
+    /// The client's session.
+    pub session: u64,
+    /// What it says.
+    pub msg: Msg,
+}
