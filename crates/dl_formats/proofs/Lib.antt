@@ -1,0 +1,7 @@
+pub mod DigitLemmas
+pub mod KeyLemmas
+pub mod FormLemmas
+pub mod PathLemmas
+pub mod DecodeLemmas
+pub mod Exactness
+pub mod ChildLemmas

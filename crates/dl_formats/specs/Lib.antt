@@ -1,0 +1,6 @@
+pub mod Digits
+pub mod Keys
+pub mod KeyLaws
+pub mod Children
+pub mod NodeBytes
+pub mod Reading

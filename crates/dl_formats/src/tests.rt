@@ -1,0 +1,394 @@
+mod rows;
+
+ghost use Rattle.dl_formats.specs.NodeBytes.{IsBetween, most_count};
+
+use crate::allocation::Alloc;
+use crate::children::{member_of, segment_of};
+use crate::conf::Conf;
+use crate::cut::Cut;
+use crate::decode::{
+    decode_alloc, decode_conf, decode_cut, decode_ledger, decode_maxseq, decode_segment,
+};
+use crate::encode::{
+    encode_alloc, encode_conf, encode_cut, encode_ledger, encode_maxseq, encode_segment,
+};
+use crate::fault::MetaBytesFault;
+use crate::laws::{
+    insert_is_by_key, keys_are_told, keys_have_paths_of_their_own, paths_go_by_parents,
+    paths_have_their_form, remove_is_by_key,
+};
+use crate::ledger::{LedgerMeta, LedgerState};
+use crate::maxseq::MaxSeq;
+use crate::paths::{
+    alloc_path, completed_path, conf_path, cut_path, ledger_path, ledger_stem, lock_path,
+    maxseq_path, member_stem, progress_path, segs_path, stream_path,
+};
+use crate::segment::SegmentMeta;
+use crate::segment_name::SegmentName;
+use dl_types::dlsn::Dlsn;
+use dl_types::memory::NoMemory;
+use dl_types::name::Name;
+use dl_types::path::Path;
+use dl_types::quorum::Quorum;
+use dl_types::txid::TxId;
+use std::alloc::Global;
+use std::test::Fail;
+
+#[test]
+fn reads_where_a_stream_is_cut_off(rt: HostRuntime) -> Result<(), Fail> {
+    let mut bytes = rows::CUT.to_vec(rt.alloc())?;
+    match decode_cut(&bytes) {
+        Ok(cut) => {
+            assert_eq!(rt; cut.point.segment, 1);
+            assert_eq!(rt; cut.point.entry, 0);
+            assert_eq!(rt; cut.point.slot, 0);
+        }
+        Err(_) => assert!(rt; false),
+    }
+    bytes.push(0)?;
+    assert_eq!(rt; decode_cut(&bytes), Err(MetaBytesFault::Long { at: 21 }));
+    Ok(())
+}
+
+/// The bytes of the values of the rows, in their order.
+fn encoded(alloc: Global, place: u8) -> Result<Vec<u8>, NoMemory> {
+    match place {
+        0 => encode_conf(
+            alloc,
+            &Conf {
+                b: 16,
+                e: 3,
+                qw: 3,
+                qa: 2,
+            },
+        ),
+        1 => encoded_ledger(alloc, LedgerState::Closed, 3, 8),
+        2 => encoded_ledger(alloc, LedgerState::Writing, 5, 0),
+        3 => encode_segment(
+            alloc,
+            &SegmentMeta::InProgress {
+                segment: 12,
+                ledger: 9_999_999_999,
+            },
+        ),
+        4 => encode_segment(
+            alloc,
+            &SegmentMeta::Completed {
+                segment: 9_999_999_999,
+                ledger: 7,
+                entries: 1_099_511_627_776,
+                rows: 2_199_023_255_552,
+                last: TxId::new(TxId::MAX),
+            },
+        ),
+        5 => encode_maxseq(
+            alloc,
+            &MaxSeq {
+                segment: 12,
+                last: TxId::new(77),
+            },
+        ),
+        6 => encode_cut(
+            alloc,
+            &Cut {
+                point: Dlsn {
+                    segment: 1,
+                    entry: 0,
+                    slot: 0,
+                },
+            },
+        ),
+        7 => encode_alloc(alloc, &Alloc { ledger: None }),
+        _ => encode_alloc(alloc, &Alloc { ledger: Some(7) }),
+    }
+}
+
+fn encoded_ledger(alloc: Global, state: LedgerState, e: u8, count: u64) -> Result<Vec<u8>, NoMemory>
+    requires { IsBetween 0 (most_count state) count }
+{
+    match Quorum::new(e, 3, 2) {
+        Ok(q) => encode_ledger(alloc, &LedgerMeta { state, q, count }),
+        Err(_) => Err(NoMemory),
+    }
+}
+
+/// The rows in their order.
+fn row(place: u8) -> &'static [u8] {
+    match place {
+        0 => &rows::CONF,
+        1 => &rows::CLOSED,
+        2 => &rows::WRITING,
+        3 => &rows::IN_PROGRESS,
+        4 => &rows::COMPLETED,
+        5 => &rows::MAXSEQ,
+        6 => &rows::CUT,
+        7 => &rows::NONE,
+        _ => &rows::SOME,
+    }
+}
+
+#[test]
+fn writes_each_row(rt: HostRuntime) -> Result<(), Fail> {
+    for place in 0u8..9 {
+        let bytes = encoded(rt.alloc(), place)?;
+        assert_eq!(rt; bytes.as_slice(), row(place), "row {place}");
+    }
+    Ok(())
+}
+
+/// A kind of node.
+#[derive(Clone, Copy)]
+enum Kind {
+    Conf,
+    Ledger,
+    Segment,
+    MaxSeq,
+    Cut,
+    Alloc,
+}
+
+/// A letter for the fault that is found, or `O` for none, and its place.
+fn outcome(kind: Kind, bytes: &[u8]) -> (u8, usize) {
+    let fault = match kind {
+        Kind::Conf => decode_conf(bytes).err(),
+        Kind::Ledger => decode_ledger(bytes).err(),
+        Kind::Segment => decode_segment(bytes).err(),
+        Kind::MaxSeq => decode_maxseq(bytes).err(),
+        Kind::Cut => decode_cut(bytes).err(),
+        Kind::Alloc => decode_alloc(bytes).err(),
+    };
+    match fault {
+        None => (b'O', 0),
+        Some(MetaBytesFault::BadVersion { at }) => (b'V', at),
+        Some(MetaBytesFault::BadKind { at }) => (b'K', at),
+        Some(MetaBytesFault::Short { at }) => (b'S', at),
+        Some(MetaBytesFault::Long { at }) => (b'L', at),
+    }
+}
+
+/// Whether this is found in a row that is cut off at every place, and with one byte more.
+fn cut_finds(
+    alloc: Global,
+    kind: Kind,
+    row: &[u8],
+    expected: &[(u8, usize)],
+) -> Result<bool, NoMemory> {
+    let mut longer = row.to_vec(alloc)?;
+    longer.push(0)?;
+    let mut size = 0usize;
+    for there in expected {
+        match longer.get(..size) {
+            Some(bytes) if outcome(kind, bytes) == *there => {}
+            _ => return Ok(false),
+        }
+        size = size.saturating_add(1);
+    }
+    Ok(true)
+}
+
+/// Whether this is found in a row where these bits are turned in each byte in turn.
+fn spoilt_finds(
+    alloc: Global,
+    kind: Kind,
+    row: &[u8],
+    bits: u8,
+    expected: &[(u8, usize)],
+) -> Result<bool, NoMemory> {
+    let mut place = 0usize;
+    for there in expected {
+        let mut bytes = row.to_vec(alloc)?;
+        if let Some(byte) = bytes.get_mut(place) {
+            *byte ^= bits;
+        }
+        if outcome(kind, &bytes) != *there {
+            return Ok(false);
+        }
+        place = place.saturating_add(1);
+    }
+    Ok(true)
+}
+
+/// Whether this is found in a row that is cut off, and where its bytes are spoilt.
+fn row_finds(
+    alloc: Global,
+    kind: Kind,
+    row: &[u8],
+    sizes: &[(u8, usize)],
+    ones: &[(u8, usize)],
+    highs: &[(u8, usize)],
+) -> Result<bool, NoMemory> {
+    Ok(
+        cut_finds(alloc, kind, row, sizes)?
+            && spoilt_finds(alloc, kind, row, 1, ones)?
+            && spoilt_finds(alloc, kind, row, 128, highs)?,
+    )
+}
+
+/// Whether all is found of the row at a place.
+fn finds(alloc: Global, place: u8) -> Result<bool, NoMemory> {
+    match place {
+        0 => row_finds(
+            alloc,
+            Kind::Conf,
+            &rows::CONF,
+            &rows::CONF_SIZES,
+            &rows::CONF_ONES,
+            &rows::CONF_HIGHS,
+        ),
+        1 => row_finds(
+            alloc,
+            Kind::Ledger,
+            &rows::CLOSED,
+            &rows::CLOSED_SIZES,
+            &rows::CLOSED_ONES,
+            &rows::CLOSED_HIGHS,
+        ),
+        2 => row_finds(
+            alloc,
+            Kind::Ledger,
+            &rows::WRITING,
+            &rows::WRITING_SIZES,
+            &rows::WRITING_ONES,
+            &rows::WRITING_HIGHS,
+        ),
+        3 => row_finds(
+            alloc,
+            Kind::Segment,
+            &rows::IN_PROGRESS,
+            &rows::IN_PROGRESS_SIZES,
+            &rows::IN_PROGRESS_ONES,
+            &rows::IN_PROGRESS_HIGHS,
+        ),
+        4 => row_finds(
+            alloc,
+            Kind::Segment,
+            &rows::COMPLETED,
+            &rows::COMPLETED_SIZES,
+            &rows::COMPLETED_ONES,
+            &rows::COMPLETED_HIGHS,
+        ),
+        5 => row_finds(
+            alloc,
+            Kind::MaxSeq,
+            &rows::MAXSEQ,
+            &rows::MAXSEQ_SIZES,
+            &rows::MAXSEQ_ONES,
+            &rows::MAXSEQ_HIGHS,
+        ),
+        6 => row_finds(
+            alloc,
+            Kind::Cut,
+            &rows::CUT,
+            &rows::CUT_SIZES,
+            &rows::CUT_ONES,
+            &rows::CUT_HIGHS,
+        ),
+        7 => row_finds(
+            alloc,
+            Kind::Alloc,
+            &rows::NONE,
+            &rows::NONE_SIZES,
+            &rows::NONE_ONES,
+            &rows::NONE_HIGHS,
+        ),
+        _ => row_finds(
+            alloc,
+            Kind::Alloc,
+            &rows::SOME,
+            &rows::SOME_SIZES,
+            &rows::SOME_ONES,
+            &rows::SOME_HIGHS,
+        ),
+    }
+}
+
+#[test]
+fn finds_the_first_fault(rt: HostRuntime) -> Result<(), Fail> {
+    for place in 0u8..9 {
+        let found = finds(rt.alloc(), place)?;
+        assert!(rt; found, "row {place}");
+    }
+    Ok(())
+}
+
+/// One path of each maker.
+fn path_at(alloc: Global, stream: &Name, place: u8) -> Result<Path, NoMemory> {
+    match place {
+        0 => conf_path(alloc),
+        1 => ledger_stem(alloc),
+        2 => ledger_path(alloc, 7),
+        3 => stream_path(alloc, stream),
+        4 => lock_path(alloc, stream),
+        5 => member_stem(alloc, stream),
+        6 => segs_path(alloc, stream),
+        7 => maxseq_path(alloc, stream),
+        8 => cut_path(alloc, stream),
+        9 => alloc_path(alloc, stream),
+        10 => progress_path(alloc, stream, 12),
+        _ => completed_path(alloc, stream, 9_876_543_210),
+    }
+}
+
+/// Their texts, for the stream `s`.
+fn path_text(place: u8) -> &'static [u8] {
+    match place {
+        0 => b"/conf",
+        1 => b"/ledgers/L",
+        2 => b"/ledgers/L0000000007",
+        3 => b"/streams/s",
+        4 => b"/streams/s/lock",
+        5 => b"/streams/s/lock/m-",
+        6 => b"/streams/s/segs",
+        7 => b"/streams/s/maxseq",
+        8 => b"/streams/s/cut",
+        9 => b"/streams/s/alloc",
+        10 => b"/streams/s/segs/p0000000012",
+        _ => b"/streams/s/segs/c9876543210",
+    }
+}
+
+#[test]
+fn makes_each_path(rt: HostRuntime) -> Result<(), Fail> {
+    let stream = Name::new(rt.alloc(), b"s")?;
+    for place in 0u8..12 {
+        let path = path_at(rt.alloc(), &stream, place)?;
+        assert_eq!(rt; path.as_slice(), path_text(place), "path {place}");
+    }
+    Ok(())
+}
+
+/// A letter and a number for what a name says of a segment.
+fn segment_said(name: &[u8]) -> (u8, u64) {
+    match segment_of(name) {
+        Some(SegmentName::Progress { segment }) => (b'p', segment),
+        Some(SegmentName::Completed { segment }) => (b'c', segment),
+        None => (b'-', 0),
+    }
+}
+
+#[test]
+fn reads_the_names_of_segments(rt: HostRuntime) -> Result<(), Fail> {
+    assert_eq!(rt; segment_said(b"p0000000012"), (b'p', 12));
+    assert_eq!(rt; segment_said(b"c9876543210"), (b'c', 9_876_543_210));
+    assert_eq!(rt; segment_said(b"p0000000000"), (b'-', 0));
+    assert_eq!(rt; segment_said(b"p000000012"), (b'-', 0));
+    Ok(())
+}
+
+#[test]
+fn reads_the_names_of_members(rt: HostRuntime) -> Result<(), Fail> {
+    assert_eq!(rt; member_of(b"m-0000000000"), Some(0));
+    assert_eq!(rt; member_of(b"m-00000000x0"), None);
+    Ok(())
+}
+
+#[test]
+fn laws_hold_for_a_type(_rt: HostRuntime) -> Result<(), Fail> {
+    keys_have_paths_of_their_own();
+    keys_are_told();
+    insert_is_by_key::<u8>();
+    remove_is_by_key::<u8>();
+    paths_go_by_parents();
+    paths_have_their_form();
+    Ok(())
+}
