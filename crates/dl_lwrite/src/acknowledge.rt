@@ -1,0 +1,124 @@
+ghost use Rattle.std.specs.Prelude.{◌≡◌, ℕ, ◌+◌, ◌^◌, ◌<◌, ◌≤◌, ◌==◌, ◌&&◌, ◌||◌, length, drop, slice_index, if◌then◌else◌, Some, None};
+ghost use Rattle.dl_types.specs.WriteSets.{confirms};
+ghost use Rattle.dl_quorum.specs.Places.{holds};
+ghost use Rattle.dl_rules_ledger.specs.Ensembles.{ensemble_members};
+ghost use Rattle.dl_rules_ledger.specs.Leading.{leading};
+ghost use Rattle.dl_rules_ledger.specs.Writers.{is_add_ok, is_add_fenced, or_else};
+ghost use Rattle.dl_lwrite.specs.Sending.{is_at};
+
+use dl_msg::msg::Msg;
+use dl_quorum::place_set::PlaceSet;
+use dl_quorum::placement::confirmed;
+use dl_types::ensemble::Ensemble;
+use dl_types::quorum::Quorum;
+use std::collections::VecDeque;
+
+/// How many steps round all bookies lead from the ensemble's first bookie to another.
+fn steps_to(ensemble: &Ensemble, bookie: u8) -> u8
+    requires { bookie < ensemble.now.bookies }
+    ensures on { ensemble.now.first ≤ bookie → ensemble.now.first + result ≡ bookie }
+    ensures round { bookie < ensemble.now.first → ensemble.now.first + result ≡ bookie + ensemble.now.bookies }
+{
+    if ensemble.first <= bookie {
+        bookie - ensemble.first
+    } else {
+        bookie + ensemble.bookies - ensemble.first
+    }
+}
+
+/// The place of a bookie in an ensemble, where it has one.
+fn place_of(ensemble: &Ensemble, bookie: u8) -> Option<u8>
+    ensures few { (at : ℕ) → result ≡ Some at → at < ensemble.now.e }
+    ensures exact { (place : ℕ) → place < ensemble.now.e
+        → is_at result place ≡ (bookie == slice_index (ensemble_members ensemble.now) place) }
+{
+    if bookie >= ensemble.bookies {
+        return None;
+    }
+    let place = steps_to(ensemble, bookie);
+    if place < ensemble.e {
+        Some(place)
+    } else {
+        None
+    }
+}
+
+/// Adds a place to the answers of the entry at an index of the window.
+fn note(window: &mut VecDeque<PlaceSet>, at: usize, place: u8)
+    requires within { at < length window.old.items }
+    requires place { place < 16 }
+    ensures length { length window.new.items ≡ length window.old.items }
+    ensures answers { (i other : ℕ) → holds (slice_index window.new.items i) other ≡ ((i == at && place == other) || holds (slice_index window.old.items i) other) }
+{
+    let answers = window[at];
+    window[at] = answers.with(place);
+}
+
+/// Adds a place to the answers of the entry that a message acknowledges, where the entry is in the window, which begins at
+/// the entry `first`.
+fn note_add(ledger: u64, first: u64, window: &mut VecDeque<PlaceSet>, place: u8, msg: &Msg)
+    requires { place < 16 }
+    ensures length { length window.new.items ≡ length window.old.items }
+    ensures answers { (i other : ℕ) → i < length window.old.items → holds (slice_index window.new.items i) other
+        ≡ ((place == other && is_add_ok ledger (first + i) msg.now) || holds (slice_index window.old.items i) other) }
+{
+    if let Msg::AddOk {
+        ledger: named,
+        entry,
+    } = msg
+    {
+        if *named == ledger && first <= *entry && *entry - first < window.len() as u64 {
+            note(window, (*entry - first) as usize, place);
+        }
+    }
+}
+
+/// Adds a bookie's place to the answers of the entry that its message acknowledges. A bookie outside the ensemble, an entry
+/// outside the window and another ledger change nothing.
+pub(crate) fn acknowledge(
+    ledger: u64,
+    first: u64,
+    ensemble: &Ensemble,
+    window: &mut VecDeque<PlaceSet>,
+    bookie: u8,
+    msg: &Msg,
+)
+    ensures length { length window.new.items ≡ length window.old.items }
+    ensures answers { (i place : ℕ) → i < length window.old.items → place < ensemble.now.e → holds (slice_index window.new.items i) place
+        ≡ ((bookie == slice_index (ensemble_members ensemble.now) place && is_add_ok ledger (first + i) msg.now) || holds (slice_index window.old.items i) place) }
+{
+    if let Some(place) = place_of(ensemble, bookie) {
+        note_add(ledger, first, window, place, msg);
+    }
+}
+
+/// The first bookie that said that the ledger is fenced, once this message is heard.
+pub(crate) fn fenced_after(fenced: Option<u8>, ledger: u64, bookie: u8, msg: &Msg) -> Option<u8>
+    ensures { result ≡ or_else fenced (if is_add_fenced ledger msg.now then Some bookie else None) }
+{
+    match (fenced, msg) {
+        (Some(first), _) => Some(first),
+        (None, Msg::AddFenced { ledger: named, .. }) => {
+            if *named == ledger { Some(bookie) } else { None }
+        }
+        (None, _) => None,
+    }
+}
+
+/// Takes the entries off the front that have an ack quorum, and says how many they are.
+pub(crate) fn advance(q: Quorum, first: u64, window: &mut VecDeque<PlaceSet>) -> usize
+    requires { first + length window.old.items < 2 ^ 64 }
+    ensures passed { result ≡ leading (λ i. confirms q (first + i) (holds (slice_index window.old.items i))) (length window.old.items) }
+    ensures few { result ≤ length window.old.items }
+    ensures rest { window.new.items ≡ drop result window.old.items }
+{
+    let mut passed: usize = 0;
+    while let Some(answers) = window.front() {
+        if !confirmed(q, first + passed as u64, *answers) {
+            break;
+        }
+        window.pop_front();
+        passed += 1;
+    }
+    passed
+}

@@ -1,0 +1,151 @@
+ghost use Rattle.std.specs.Prelude.{◌≡◌, ℕ, ◌+◌, ◌^◌, ◌<◌, None, OnOk, OnErr, IfOk, IfErr};
+ghost use Rattle.dl_rules_ledger.specs.Ensembles.{one_piece};
+ghost use Rattle.dl_rules_ledger.specs.Writers.{WriterView, Sends, Hears, started, called, sent, confirmed, send_stop, adds as add_letters, closing_count};
+ghost use Rattle.dl_lwrite.specs.Standing.{StandsFor, Refuses};
+
+use crate::acknowledge::{acknowledge, advance, fenced_after};
+use crate::send_fault::SendFault;
+use crate::sending::adds;
+use bytes::Bytes;
+use dl_msg::letters::Letters;
+use dl_msg::msg::Msg;
+use dl_quorum::place_set::PlaceSet;
+use dl_types::ensemble::Ensemble;
+use dl_types::memory::NoMemory;
+use dl_types::quorum::Quorum;
+use std::alloc::Global;
+use std::collections::VecDeque;
+use std::marker::Model;
+
+/// The most entries that are unconfirmed at a time.
+pub const WINDOW: usize = 64;
+
+/// The writer of a ledger. It keeps a set of places for each entry that isn't confirmed yet, so that an answer costs the
+/// same however long the ledger is.
+#[derive(Drop)]
+pub struct LedgerWriter {
+    alloc: Global,
+    ledger: u64,
+    q: Quorum,
+    ensemble: Ensemble,
+    sent: u64,
+    confirmed: u64,
+    window: VecDeque<PlaceSet>,
+    fenced: Option<u8>,
+}
+
+impl Model for LedgerWriter {
+    ghost use Rattle.std.specs.Prelude.{◌≡◌, ◌+◌, ◌^◌, ◌<◌, ◌≤◌, length};
+    ghost use Rattle.dl_lwrite.specs.Facts.{WriterFacts};
+
+    ghost Value = { WriterFacts };
+
+    ghost view = { λ w. record { ledger = w.ledger; q = w.q; ensemble = w.ensemble; sent = w.sent; confirmed = w.confirmed; answers = w.window.items; fenced = w.fenced } };
+
+    ghost invariant = { λ w. (w.ensemble.e ≡ w.q.e) × (w.confirmed + length w.window.items ≡ w.sent) × (w.sent < 2 ^ 64) × (length w.window.items ≤ 64) };
+}
+
+impl LedgerWriter {
+    /// A writer of this ledger that has sent and heard nothing. The ensemble has as many bookies as the quorum says.
+    pub fn start(
+        alloc: Global,
+        ledger: u64,
+        q: Quorum,
+        ensemble: Ensemble,
+    ) -> Result<LedgerWriter, NoMemory>
+        requires { ensemble.e ≡ q.e }
+        ensures { IfOk result (λ w. StandsFor (started ledger (one_piece q ensemble)) w) }
+    {
+        let window = VecDeque::with_capacity(alloc, WINDOW)?;
+        Ok(LedgerWriter {
+            alloc,
+            ledger,
+            q,
+            ensemble,
+            sent: 0,
+            confirmed: 0,
+            window,
+            fenced: None,
+        })
+    }
+
+    /// How many of the first entries are confirmed.
+    pub fn confirmed(&self) -> u64
+        ensures { (v : WriterView) → StandsFor v self.now → result ≡ confirmed v }
+    {
+        self.confirmed
+    }
+
+    /// How many entries were sent.
+    pub fn sent(&self) -> u64
+        ensures value { result ≡ self.now.sent }
+        ensures view { (v : WriterView) → StandsFor v self.now → result ≡ sent v.calls }
+    {
+        self.sent
+    }
+
+    /// Sends the next entry: its number, and the messages to its write set in the order of places, which share its bytes
+    /// and carry the confirmed count. `Fenced` comes exactly where a bookie said that the ledger is fenced, and names the
+    /// first one; else `WindowFull` exactly where 64 entries are unconfirmed. After a fault the writer is as before.
+    pub fn send(&mut self, bytes: Bytes) -> Result<(u64, Letters), SendFault>
+        requires { self.old.sent + 1 < 2 ^ 64 }
+        ensures entry { IfOk result (λ x. (v : WriterView) → StandsFor v self.old → x.0 ≡ sent v.calls) }
+        ensures letters { IfOk result (λ x. (v : WriterView) → StandsFor v self.old → x.1 ≡ add_letters v bytes) }
+        ensures free { OnOk result ((v : WriterView) → StandsFor v self.old → send_stop v ≡ None) }
+        ensures stands { OnOk result ((v : WriterView) → StandsFor v self.old → StandsFor (called v (Sends bytes)) self.new) }
+        ensures refused { IfErr result (λ fault. (v : WriterView) → StandsFor v self.old → Refuses v fault) }
+        ensures kept { OnErr result (self.new ≡ self.old) }
+    {
+        if let Some(bookie) = self.fenced {
+            return Err(SendFault::Fenced(bookie));
+        }
+        if self.window.len() >= WINDOW {
+            return Err(SendFault::WindowFull);
+        }
+        let entry = self.sent;
+        let told = adds(
+            self.alloc,
+            self.q,
+            &self.ensemble,
+            self.ledger,
+            entry,
+            self.confirmed,
+            &bytes,
+        )?;
+        self.window.push_back(PlaceSet::empty())?;
+        self.sent += 1;
+        Ok((entry, Letters::from_vec(told)))
+    }
+
+    /// Hears a message of a bookie, and gives the confirmed count afterwards. It takes no memory. Messages that answer no
+    /// entry of this ledger change nothing.
+    pub fn hear(&mut self, bookie: u8, msg: &Msg) -> u64
+        ensures stands { (v : WriterView) → StandsFor v self.old → StandsFor (called v (Hears bookie msg.now)) self.new }
+        ensures count { (v : WriterView) → StandsFor v self.old → result ≡ confirmed (called v (Hears bookie msg.now)) }
+        ensures sent { self.new.sent ≡ self.old.sent }
+    {
+        acknowledge(
+            self.ledger,
+            self.confirmed,
+            &self.ensemble,
+            &mut self.window,
+            bookie,
+            msg,
+        );
+        self.fenced = fenced_after(self.fenced, self.ledger, bookie, msg);
+        let passed = advance(self.q, self.confirmed, &mut self.window);
+        self.confirmed += passed as u64;
+        self.confirmed
+    }
+
+    /// The count at which the ledger may be closed: that of the entries sent, where all of them are confirmed.
+    pub fn close(&self) -> Option<u64>
+        ensures { (v : WriterView) → StandsFor v self.now → result ≡ closing_count v }
+    {
+        if self.confirmed == self.sent {
+            Some(self.sent)
+        } else {
+            None
+        }
+    }
+}

@@ -1,0 +1,4 @@
+pub mod Ensembles
+pub mod Leading
+pub mod Writers
+pub mod Laws

@@ -1,0 +1,30 @@
+//! What holds of a ledger's writer, for each list of calls: laws on their definitions, with no code.
+
+ghost use Rattle.dl_rules_ledger.specs.Laws.{ConfirmedIsGreatest, ConfirmedNeverFalls, AcksAreOfDifferentBookies, MembersDiffer, RingsAreEnsembles, FencesStay};
+
+/// The confirmed count is the greatest number, at most that of the entries sent, below which each entry has an ack quorum.
+pub fn confirmed_is_greatest()
+    ensures { ConfirmedIsGreatest }
+{}
+
+/// Whatever call comes, the confirmed count doesn't fall.
+pub fn confirmed_never_falls()
+    ensures { ConfirmedNeverFalls }
+{}
+
+/// The bookies of a write set differ, so that each confirmed entry was acknowledged by an ack quorum of different bookies of
+/// its write set.
+pub fn acks_are_of_different_bookies()
+    ensures acks { AcksAreOfDifferentBookies }
+    ensures members { MembersDiffer }
+{}
+
+/// The one piece of a writer's ensemble is the ledger's ring, where the ensemble begins as the ledger's number says.
+pub fn rings_are_ensembles()
+    ensures { RingsAreEnsembles }
+{}
+
+/// The first bookie that said that the ledger is fenced stays the one that is named.
+pub fn fences_stay()
+    ensures { FencesStay }
+{}
