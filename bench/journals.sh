@@ -7,22 +7,9 @@
 # the same at each number of commits. A load is one pass: so it is to cost so many plain copies, whatever the size of the
 # file. Both times of a large file rise with the memory that is touched for the first time.
 set -e
-top=$(pwd)
-scratch=$(mktemp -d)
-trap 'rm -rf "$scratch"' EXIT
-mkdir "$scratch/crates"
-for crate in dl_types dl_depot dl_journal; do
-    mkdir "$scratch/crates/$crate"
-    for part in src specs proofs; do cp -r "$top/crates/$crate/$part" "$scratch/crates/$crate/"; done
-    grep "^$crate:" "$top/crates.txt" >> "$scratch/crates.txt"
-done
-cp "$top/HANDLES" "$scratch/"
-git -C "$scratch" init -q
-bench="$scratch/crates/bench_journals"
-mkdir -p "$bench/src" "$bench/specs" "$bench/proofs/commit_all" "$bench/data"
-echo "bench_journals: dl_types dl_depot dl_journal byteorder thiserror" >> "$scratch/crates.txt"
-printf '' > "$bench/proofs/Lib.antt"
-printf '' > "$bench/specs/Lib.antt"
+. bench/scratch.sh
+scratch_with bench_journals "dl_types dl_depot dl_journal byteorder thiserror" dl_types dl_depot dl_journal
+mkdir "$bench/proofs/commit_all"
 # journals of 1 to 16 MiB in bodies of 16 bytes, of 1 KiB and of 64 KiB
 python3 - "$bench/data" <<'P'
 import sys
@@ -206,9 +193,7 @@ fn main(rt: HostRuntime) -> io::Result<()> {
     Ok(())
 }
 P
-cd "$bench"
-rt run > "$scratch/log" 2>&1 || true
-if [ ! -x out/bench_journals ]; then grep -v '^statements\|^logic\|proved$' "$scratch/log" | cut -c1-600; exit 1; fi
+build
 cd data
 for turn in 1 2 3; do ../out/bench_journals > "$scratch/numbers$turn"; done
 python3 - "$scratch/numbers1" "$scratch/numbers2" "$scratch/numbers3" <<'P'

@@ -5,22 +5,8 @@
 # bytes. Run it at the top of the repository: it makes a scratch repository with the program, proves it, which takes some
 # minutes, and runs it.
 set -e
-top=$(pwd)
-scratch=$(mktemp -d)
-trap 'rm -rf "$scratch"' EXIT
-mkdir "$scratch/crates"
-for crate in dl_types dl_codec dl_record dl_fields dl_msg dl_quorum dl_rules_ledger dl_lwrite; do
-    mkdir "$scratch/crates/$crate"
-    for part in src specs proofs; do cp -r "$top/crates/$crate/$part" "$scratch/crates/$crate/"; done
-    grep "^$crate:" "$top/crates.txt" >> "$scratch/crates.txt"
-done
-cp "$top/HANDLES" "$scratch/"
-git -C "$scratch" init -q
-bench="$scratch/crates/bench_writer"
-mkdir -p "$bench/src" "$bench/specs" "$bench/proofs"
-echo "bench_writer: dl_types dl_msg dl_lwrite bytes" >> "$scratch/crates.txt"
-printf '' > "$bench/proofs/Lib.antt"
-printf '' > "$bench/specs/Lib.antt"
+. bench/scratch.sh
+scratch_with bench_writer "dl_types dl_msg dl_lwrite bytes" dl_types dl_codec dl_record dl_fields dl_msg dl_quorum dl_rules_ledger dl_lwrite
 cat > "$bench/src/main.rt" <<'P'
 //! Times the writer of a ledger, and the bytes of messages.
 #![tactic(auto)]
@@ -134,7 +120,5 @@ fn main(rt: HostRuntime) -> io::Result<()> {
     messages(&rt)
 }
 P
-cd "$bench"
-rt run > "$scratch/log" 2>&1 || true
-if [ ! -x out/bench_writer ]; then grep -v '^statements\|^logic\|proved$' "$scratch/log" | cut -c1-600; exit 1; fi
+build
 out/bench_writer

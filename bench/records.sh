@@ -2,27 +2,15 @@
 # Measures how many bytes a second decode_entry, encode_entry and RowWalk pass, beside a plain copy of the same bytes.
 # Run it at the top of the repository: it makes a scratch repository with the program, proves it, and runs it.
 set -e
-top=$(pwd)
-scratch=$(mktemp -d)
-mkdir "$scratch/crates"
-for crate in dl_types dl_codec dl_record; do
-    mkdir "$scratch/crates/$crate"
-    for part in src specs proofs; do cp -r "$top/crates/$crate/$part" "$scratch/crates/$crate/"; done
-    grep "^$crate:" "$top/crates.txt" >> "$scratch/crates.txt"
-done
-cp "$top/HANDLES" "$scratch/"
-git -C "$scratch" init -q
-mkdir -p "$scratch/crates/bench_records/src" "$scratch/crates/bench_records/proofs" "$scratch/crates/bench_records/specs" "$scratch/crates/bench_records/data"
-echo "bench_records: dl_types dl_codec dl_record" >> "$scratch/crates.txt"
-printf '' > "$scratch/crates/bench_records/proofs/Lib.antt"
-printf '' > "$scratch/crates/bench_records/specs/Lib.antt"
+. bench/scratch.sh
+scratch_with bench_records "dl_types dl_codec dl_record" dl_types dl_codec dl_record
 # an entry of 1,000 plain records of 1,000 bytes
-python3 - "$scratch/crates/bench_records/data/entry" <<'P'
+python3 - "$bench/data/entry" <<'P'
 import sys
 body = b"".join(i.to_bytes(4, "big") + bytes(4) + (9).to_bytes(8, "big") + (1000).to_bytes(4, "big") + bytes(1000) for i in range(1000))
 open(sys.argv[1], "wb").write(bytes([1, 0]) + (1000).to_bytes(2, "big") + len(body).to_bytes(4, "big") + body)
 P
-cat > "$scratch/crates/bench_records/src/main.rt" <<'P'
+cat > "$bench/src/main.rt" <<'P'
 //! Times the layout of entries.
 #![tactic(auto)]
 
@@ -75,7 +63,6 @@ fn main(rt: HostRuntime) -> io::Result<()> {
     println!(rt; "microseconds: copy {copied} decode {decoded} encode {encoded} walk {walked}")
 }
 P
-cd "$scratch/crates/bench_records"
-rt run > "$scratch/log" 2>&1 || true
-cd data && ../out/bench_records
-rm -rf "$scratch"
+build
+cd data
+../out/bench_records
