@@ -1,8 +1,9 @@
 -- The laws of a ledger's writer.
-use Rattle.std.proofs.Common.{◌≡◌, ◌≢◌, ℕ, ◌+◌, ◌-◌, ◌%◌, ◌<◌, ◌≤◌, true, [], ◌∷◌, map, get_or, slice_index, refl, sym, ap, ◌∙◌, subst, arith, inl, inr, ◌⊎◌, leb-true, mod-lt}
+use Rattle.std.proofs.Common.{◌≡◌, ◌≢◌, ℕ, ◌+◌, ◌-◌, ◌%◌, ◌<◌, ◌≤◌, true, List, [], ◌∷◌, map, get_or, slice_index, refl, sym, ap, ◌∙◌, subst, arith, inl, inr, ◌⊎◌, leb-true, mod-lt}
 use Rattle.std.proofs.Math.Nat.{mod-add-mod, mod-eq_of_lt, mod-eq-sub-mod}
 use Rattle.std.proofs.lemmas.Bool.{cases_lt, or_right}
 use Rattle.std.proofs.lemmas.List.{length-map, get_or-map}
+use Rattle.std.specs.List.{AllByRecursion}
 use Rattle.dl_types.specs.declared.quorum.Quorum.{Quorum}
 use Rattle.dl_types.specs.declared.ensemble.Ensemble.{Ensemble}
 use Rattle.dl_types.specs.Ensembles.{upto}
@@ -10,9 +11,13 @@ use Rattle.dl_types.specs.WriteSets.{write_place, write_set}
 use Rattle.dl_types.specs.Pieces.{members}
 use Rattle.dl_types.proofs.UptoLemmas.{get_or-map-upto}
 use Rattle.dl_types.proofs.WriteSetLemmas.{write_set-is, length-write_set, write_set-distinct, is_acked-mono}
+use Rattle.dl_record.specs.Grammar.{IsEntryBytes}
+use Rattle.dl_msg.specs.declared.letters.Told.{Told}
+use Rattle.dl_msg.specs.declared.msg.Msg.TheVariants.{Add}
+use Rattle.dl_msg.specs.Whole.{IsWhole}
 use Rattle.dl_rules_ledger.specs.Ensembles.{ensemble_members}
-use Rattle.dl_rules_ledger.specs.Writers.{WriterCall, Sends, Hears, WriterView, called, sent, acked, is_acked_by, confirmed}
-use Rattle.dl_rules_ledger.specs.Laws.{ConfirmedIsGreatest, ConfirmedNeverFalls, AcksAreOfDifferentBookies, MembersDiffer, RingsAreEnsembles, FencesStay}
+use Rattle.dl_rules_ledger.specs.Writers.{WriterCall, Sends, Hears, WriterView, called, sent, acked, is_acked_by, confirmed, adds}
+use Rattle.dl_rules_ledger.specs.Laws.{ConfirmedIsGreatest, ConfirmedNeverFalls, AcksAreOfDifferentBookies, MembersDiffer, RingsAreEnsembles, FencesStay, AddsAreWhole}
 use Rattle.dl_rules_ledger.proofs.LeadingLemmas.{leading-le, leading-below, leading-greatest}
 
 pub confirmed_is_greatest : ConfirmedIsGreatest
@@ -100,3 +105,12 @@ rings_are_ensembles q x ledger size first =
 pub fences_stay : FencesStay
 fences_stay ledger b (Sends bytes) v h = h
 fences_stay ledger b (Hears c msg) v h = rw h refl
+
+-- whoever they go to
+whole_to : (ledger entry count : ℕ) (bytes bookies : List ℕ) → IsEntryBytes bytes → AllByRecursion (λ (told : Told). IsWhole told.msg) (map (λ b. record { bookie = b; msg = Add ledger entry count bytes }) bookies)
+whole_to ledger entry count bytes [] spelt = tt
+whole_to ledger entry count bytes (b ∷ bookies) spelt = (spelt, whole_to ledger entry count bytes bookies spelt)
+
+pub adds_are_whole : AddsAreWhole
+unfolding adds
+adds_are_whole v bytes spelt = whole_to v.ledger (sent v.calls) (confirmed v) bytes (members v.pieces (sent v.calls)) spelt

@@ -1,10 +1,13 @@
 -- The laws of a ledger's writer.
-use Rattle.std.specs.Prelude.{◌≡◌, ◌≢◌, ℕ, ◌%◌, ◌<◌, ◌≤◌, true, Some, AllPairs, count_by}
+use Rattle.std.specs.Prelude.{◌≡◌, ◌≢◌, ℕ, ◌%◌, ◌<◌, ◌≤◌, true, List, Some, AllPairs, count_by}
+use Rattle.std.specs.List.{AllByRecursion}
 use Rattle.dl_types.specs.declared.quorum.Quorum.{Quorum}
 use Rattle.dl_types.specs.declared.ensemble.Ensemble.{Ensemble}
 use Rattle.dl_types.specs.Pieces.{members, ring}
+use Rattle.dl_record.specs.Grammar.{IsEntryBytes}
+use Rattle.dl_msg.specs.Whole.{IsWhole}
 use Rattle.dl_rules_ledger.specs.Ensembles.{one_piece}
-use Rattle.dl_rules_ledger.specs.Writers.{WriterCall, WriterView, called, sent, acked, is_acked_by, confirmed, fenced_by}
+use Rattle.dl_rules_ledger.specs.Writers.{WriterCall, WriterView, called, sent, acked, is_acked_by, confirmed, fenced_by, adds}
 
 -- The confirmed count is at most that of the entries sent, each entry below it has an ack quorum, and it is the greatest
 -- such number.
@@ -32,3 +35,7 @@ RingsAreEnsembles = (q : Quorum) (x : Ensemble) (ledger : ℕ) → x.e ≡ q.e �
 
 abbrev pub FencesStay : Type 0
 FencesStay = (ledger b : ℕ) (call : WriterCall) (v : WriterView) → fenced_by ledger v.calls ≡ Some b → fenced_by ledger (called v call).calls ≡ Some b
+
+-- where an entry's bytes are sent, each message that carries them is whole
+abbrev pub AddsAreWhole : Type 0
+AddsAreWhole = (v : WriterView) (bytes : List ℕ) → IsEntryBytes bytes → AllByRecursion (λ told. IsWhole told.msg) (adds v bytes)

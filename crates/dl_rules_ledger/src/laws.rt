@@ -1,6 +1,6 @@
 //! What holds of a ledger's writer, for each list of calls: laws on their definitions, with no code.
 
-ghost use Rattle.dl_rules_ledger.specs.Laws.{ConfirmedIsGreatest, ConfirmedNeverFalls, AcksAreOfDifferentBookies, MembersDiffer, RingsAreEnsembles, FencesStay};
+ghost use Rattle.dl_rules_ledger.specs.Laws.{ConfirmedIsGreatest, ConfirmedNeverFalls, AcksAreOfDifferentBookies, MembersDiffer, RingsAreEnsembles, FencesStay, AddsAreWhole};
 
 /// The confirmed count is the greatest number, at most that of the entries sent, below which each entry has an ack quorum.
 pub fn confirmed_is_greatest()
@@ -27,4 +27,9 @@ pub fn rings_are_ensembles()
 /// The first bookie that said that the ledger is fenced stays the one that is named.
 pub fn fences_stay()
     ensures { FencesStay }
+{}
+
+/// Where the bytes that are sent spell an entry, each message that carries them is whole.
+pub fn adds_are_whole()
+    ensures { AddsAreWhole }
 {}
