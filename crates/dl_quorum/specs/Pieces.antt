@@ -1,10 +1,11 @@
 -- The shape of a ledger as a list of pieces (BookKeeper ledger metadata: ensembles by the first entry that each is used
 -- for). A ledger whose bookies were never replaced has one piece, its ring. A set of bookies is a test.
-use Rattle.std.specs.Prelude.{ℕ, ◌<◌, Bool, if◌then◌else◌, nat_le, List, [], ◌∷◌, map, slice_index}
+use Rattle.std.specs.Prelude.{ℕ, ◌+◌, ◌%◌, ◌<◌, Bool, if◌then◌else◌, nat_le, List, [], ◌∷◌, map, slice_index}
 use Rattle.std.specs.List.{list_all}
-use Rattle.dl_types.specs.declared.quorum.Quorum.{Quorum}
-use Rattle.dl_types.specs.Ensembles.{upto, ring_members}
-use Rattle.dl_types.specs.WriteSets.{write_set, is_acked, is_blocked}
+use Rattle.dl_types.specs.declared.ensemble.Ensemble.{Ensemble}
+use Rattle.dl_quorum.specs.Sizes.{Sizes}
+use Rattle.dl_types.specs.Upto.{upto}
+use Rattle.dl_quorum.specs.WriteSets.{write_set, is_acked, is_blocked}
 
 -- the ensemble for the entries from the first on: the bookie of each place
 pub record Piece : Type 0 where
@@ -13,13 +14,25 @@ pub record Piece : Type 0 where
 
 -- a first piece, and later ones, by rising first entries
 pub record Pieces : Type 0 where
-  pub q : Quorum
+  pub q : Sizes
   pub first : Piece
   pub later : List Piece
 
--- one piece for all entries: the ledger's ring
-abbrev pub ring : ℕ → ℕ → Quorum → Pieces
-ring ledger bookies q = record { q = q; first = record { from = 0; members = ring_members ledger bookies q.e }; later = [] }
+-- the same bookies for all entries
+abbrev pub one_piece : Sizes → List ℕ → Pieces
+one_piece q members = record { q = q; first = record { from = 0; members = members }; later = [] }
+
+-- e neighbours among the bookies in a ring, from the first on
+abbrev pub ring_members : ℕ → ℕ → ℕ → List ℕ
+ring_members first bookies e = map (λ place. (first + place) % bookies) (upto e)
+
+-- the bookie of each place of an ensemble
+abbrev pub ensemble_members : Ensemble → List ℕ
+ensemble_members x = ring_members x.first x.bookies x.e
+
+-- the pieces of a ledger whose bookies were never replaced: neighbours from the bookie on that the ledger's number says
+abbrev pub ring : ℕ → ℕ → Sizes → Pieces
+ring ledger bookies q = one_piece q (ring_members (ledger % bookies) bookies q.e)
 
 -- the last of the pieces whose first entry isn't above the entry
 abbrev pub piece_from : Piece → List Piece → ℕ → Piece
@@ -40,7 +53,7 @@ abbrev pub last_piece : Pieces → Piece
 last_piece w = last_from w.first w.later
 
 -- the bookies of an entry's write set in one piece
-abbrev pub members_in : Quorum → Piece → ℕ → List ℕ
+abbrev pub members_in : Sizes → Piece → ℕ → List ℕ
 members_in q p entry = map (λ place. slice_index p.members place) (write_set q entry)
 
 -- the bookies of an entry's write set

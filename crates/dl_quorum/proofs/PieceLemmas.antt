@@ -2,15 +2,16 @@
 use Rattle.std.proofs.Common.{◌≡◌, ℕ, ◌+◌, ◌-◌, ◌%◌, ◌<◌, ◌≤◌, Bool, true, cond, ◌&&◌, nat_le, leb, List, [], ◌∷◌, ◌++◌, map, length, slice_index, refl, sym, ap, ◌∙◌, subst, arith, le-leb, mod-lt}
 use Rattle.std.proofs.lemmas.List.{length-map}
 use Rattle.std.proofs.lemmas.Bool.{cond-true, cond-false, lt-leb}
-use Rattle.std.specs.List.{list_any}
-use Rattle.dl_types.specs.declared.quorum.Quorum.{Quorum}
-use Rattle.dl_types.specs.WriteSets.{write_set, is_blocked, confirms, denies}
-use Rattle.dl_types.specs.Pieces.{Piece, Pieces, piece_from, last_from, piece_of, last_piece, members_in, members, acks, blocks, covers, Rise}
+use Rattle.std.specs.List.{list_any, list_all}
+use Rattle.dl_quorum.specs.Sizes.{Sizes, AreSizes}
+use Rattle.dl_types.specs.Upto.{upto}
+use Rattle.dl_quorum.specs.WriteSets.{write_set, is_blocked, confirms, denies, covers_places}
+use Rattle.dl_quorum.specs.Pieces.{Piece, Pieces, piece_from, last_from, piece_of, last_piece, members_in, members, acks, blocks, covers, Rise}
 use Rattle.dl_types.proofs.UptoLemmas.{list_all-upto}
-use Rattle.dl_types.proofs.CountLemmas.{count_by-map}
-use Rattle.dl_types.proofs.WriteSetLemmas.{length-write_set, write_set-mod, acked_meets_blocked}
+use Rattle.dl_quorum.proofs.CountLemmas.{count_by-map}
+use Rattle.dl_quorum.proofs.WriteSetLemmas.{length-write_set, write_set-mod, acked_meets_blocked}
 
-pub length-members_in : (q : Quorum) (p : Piece) (entry : ℕ) → length (members_in q p entry) ≡ q.qw
+pub length-members_in : (q : Sizes) (p : Piece) (entry : ℕ) → length (members_in q p entry) ≡ q.qw
 length-members_in q p entry = length-map (write_set q entry) _ ∙ length-write_set q entry
 
 -- a write set has qw members
@@ -29,8 +30,8 @@ unfolding members
 blocks-places w entry has = ap (leb (w.q.qw - w.q.qa + 1)) (count_by-map has (λ place. slice_index (piece_of w entry).members place) (write_set w.q entry))
 
 -- an ack quorum and a denial of one write set share a bookie
-pub acks-meets-blocks : (w : Pieces) (entry : ℕ) (acked denied : ℕ → Bool) → acks w entry acked ≡ true → blocks w entry denied ≡ true → list_any (λ b. acked b && denied b) (members w entry) ≡ true
-acks-meets-blocks w entry acked denied a b = acked_meets_blocked w.q acked denied (members w entry) (length-members w entry) a b
+pub acks-meets-blocks : (w : Pieces) (entry : ℕ) (acked denied : ℕ → Bool) → AreSizes w.q → acks w entry acked ≡ true → blocks w entry denied ≡ true → list_any (λ b. acked b && denied b) (members w entry) ≡ true
+acks-meets-blocks w entry acked denied rule a b = acked_meets_blocked w.q acked denied (members w entry) rule (length-members w entry) a b
 
 piece_more : (p : Piece) (rs : List Piece) (x : Piece) (entry : ℕ) → entry < x.from → piece_from p (rs ++ x ∷ []) entry ≡ piece_from p rs entry
 piece_more p [] x entry h = cond-false (nat_le x.from entry) x p (lt-leb x.from entry h)
@@ -52,11 +53,23 @@ last_from-is p (r ∷ rs) entry h le =
     ∙ last_from-is r rs entry h.1 le
 
 -- a cover blocks each write set from the last piece on
-pub covers-blocks : (w : Pieces) (has : ℕ → Bool) → Rise w.first w.later → covers w has ≡ true → (entry : ℕ) → (last_piece w).from ≤ entry → blocks w entry has ≡ true
+pub covers-blocks : (w : Pieces) (has : ℕ → Bool) → AreSizes w.q → Rise w.first w.later → covers w has ≡ true → (entry : ℕ) → (last_piece w).from ≤ entry → blocks w entry has ≡ true
 unfolding members
-covers-blocks w has rise all entry from =
-    let some : 0 < w.q.e = omega (arith, w.q.rule.writes_within, w.q.rule.acks_within, w.q.rule.some) in
+covers-blocks w has rule rise all entry from =
+    let some : 0 < w.q.e = omega (arith, rule.writes_within, rule.acks_within, rule.some) in
     let last : is_blocked w.q has (members_in w.q (last_piece w) (entry % w.q.e)) ≡ true =
     list_all-upto (λ e. is_blocked w.q has (members_in w.q (last_piece w) e)) w.q.e (entry % w.q.e) all (mod-lt entry some) in
     subst (λ p. is_blocked w.q has (members_in w.q p entry) ≡ true) (sym (last_from-is w.first w.later entry rise from))
     (subst (λ ws. is_blocked w.q has (map (λ place. slice_index (last_piece w).members place) ws) ≡ true) (write_set-mod w.q entry) last)
+
+all_agree : (p r : ℕ → Bool) → ((x : ℕ) → p x ≡ r x) → (xs : List ℕ) → list_all p xs ≡ list_all r xs
+all_agree p r same [] = refl
+all_agree p r same (x ∷ xs) = ap (λ t. t && list_all p xs) (same x) ∙ ap (λ t. r x && t) (all_agree p r same xs)
+
+-- a cover by bookies is a cover by places
+pub covers-places : (w : Pieces) (has : ℕ → Bool) → covers w has ≡ covers_places w.q (λ place. has (slice_index (last_piece w).members place))
+covers-places w has =
+    all_agree (λ entry. is_blocked w.q has (members_in w.q (last_piece w) entry))
+    (λ entry. denies w.q entry (λ place. has (slice_index (last_piece w).members place)))
+    (λ entry. ap (leb (w.q.qw - w.q.qa + 1)) (count_by-map has (λ place. slice_index (last_piece w).members place) (write_set w.q entry)))
+    (upto w.q.e)
