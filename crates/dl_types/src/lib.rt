@@ -30,6 +30,7 @@ pub mod payload;
 pub mod payloads;
 pub mod place;
 pub mod quorum;
+pub mod read_row;
 pub mod refusal;
 pub mod row;
 pub mod session;

@@ -7,36 +7,36 @@ use crate::txid::TxId;
 /// Why an order is refused.
 #[derive(Clone, Debug, PartialEq, Eq, Drop)]
 pub enum Refusal {
-    /// The client's session is no longer live.
+    /// The client's session, this one, has ended.
     Expired { session: SessionId },
-    /// Another member, of this number, holds the stream's lock.
+    /// Another member of the stream's lock holds it: the one of this number.
     Held { member: u64 },
-    /// This bookie was the first to tell that the ledger is fenced: another client owns the stream now.
+    /// The ledger is fenced, as this bookie was the first to say: another client owns the stream now.
     Fenced { bookie: BookieId },
-    /// The node of this path has another version than was met before.
+    /// The node of this path has moved on, to this version.
     Moved { path: Path, version: u64 },
-    /// No stream has this name.
+    /// There is no such stream.
     NoStream,
-    /// A stream of this name is there.
+    /// There is such a stream.
     StreamExists,
     /// The id given is below the id of the record taken before it.
     TxidBack { last: TxId, given: TxId },
     /// The payload has more than `MAX_PAYLOAD` bytes: so many.
     TooLong { length: u64 },
-    /// The place is beyond the end of what is closed.
+    /// The place is above the end of the stream, which is this.
     BeyondEnd { end: Place },
-    /// The client has no writer.
+    /// The client has no writer, or its close has begun.
     NoWriter,
-    /// What stands below this point was truncated.
+    /// What was asked for lies below the stream's point, which is this.
     Truncated { point: Place },
-    /// The stream has so many segments.
+    /// The node has so many children.
     NotEmpty { count: u64 },
     /// The order of this line is under way.
     Busy { line: u32 },
     /// The name breaks its form at this byte, from 0.
     BadName { at: u8 },
-    /// An entry would have to be sent while `WINDOW` entries are unconfirmed.
+    /// An entry would have to be sent while a window of entries is unconfirmed.
     WindowFull,
-    /// The node of this path was met in no state from which the order goes on.
+    /// The node of this path is not as it has to be for the order to go on.
     GaveUp { path: Path },
 }

@@ -4,10 +4,10 @@ use crate::txid::TxId;
 /// Where a reader begins (DistributedLog documentation, "Readers").
 #[derive(Clone, Copy, Debug, PartialEq, Eq)]
 pub enum Start {
-    /// At the oldest record that was not purged.
+    /// At the stream's point, below which everything was truncated.
     Oldest,
-    /// At the first record from this place on.
+    /// At this place, or at the point where that is above it.
     Place(Place),
-    /// At the first record with this id or a greater one.
+    /// At the point, with the records whose ids are at least this one.
     Tx(TxId),
 }
