@@ -3,8 +3,8 @@ ghost use Rattle.std.specs.Prelude.{◌≡◌, ◌≤◌};
 use crate::dlsn::Dlsn;
 use std::marker::Model;
 
-/// A place of a stream as lines name it: its segment is 1 or more, since segments are numbered from 1. Contracts see it as
-/// its DLSN.
+/// A place of a stream as a line of a schedule or a command names it: its segment is 1 or more, since segments are numbered
+/// from 1. Contracts see it as its DLSN.
 #[derive(Clone, Copy, Debug, PartialEq, Eq, PartialOrd, Ord, Hash)]
 pub struct Place {
     dlsn: Dlsn,

@@ -1,6 +1,6 @@
 use crate::bookie::BookieId;
+use crate::dlsn::Dlsn;
 use crate::path::Path;
-use crate::place::Place;
 use crate::session::SessionId;
 use crate::txid::TxId;
 
@@ -24,11 +24,11 @@ pub enum Refusal {
     /// The payload has more than `MAX_PAYLOAD` bytes: so many.
     TooLong { length: u64 },
     /// The place is above the end of the stream, which is this.
-    BeyondEnd { end: Place },
+    BeyondEnd { end: Dlsn },
     /// The client has no writer, or its close has begun.
     NoWriter,
     /// What was asked for lies below the stream's point, which is this.
-    Truncated { point: Place },
+    Truncated { point: Dlsn },
     /// The node has so many children.
     NotEmpty { count: u64 },
     /// The order of this line is under way.
