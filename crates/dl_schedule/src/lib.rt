@@ -4,6 +4,7 @@
 pub mod bookie_count;
 pub mod early;
 pub mod fault;
+pub mod laws;
 pub mod step;
 #[cfg(test)]
 mod tests;

@@ -9,7 +9,7 @@ use crate::text::{first_line, read_line};
 use dl_schedule::fault::LineFault;
 use dl_schedule::step::Step;
 use dl_transcript::events::Events;
-use dl_transcript::print::print_events;
+use dl_transcript::print::put_events;
 use dl_types::memory::NoMemory;
 use dl_types::status::LimitName;
 use std::alloc::Global;
@@ -150,8 +150,7 @@ impl Run {
         let line = self.lines + 1;
         self.events.clear();
         self.machine.step(line, step, &mut self.events)?;
-        let shown = print_events(self.alloc, line, self.events.as_slice())?;
-        self.text.extend_from_slice(&shown)?;
+        put_events(&mut self.text, line, self.events.as_slice())?;
         self.lines = line;
         self.bytes += size;
         self.pending.clear();
