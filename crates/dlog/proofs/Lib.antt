@@ -5,8 +5,9 @@ pub mod ReplayLemmas
 pub mod Rules
 pub mod Leads
 pub mod Rows
-pub mod Progress
+pub mod WriterHistories
 pub mod Coupled
 pub mod Steps
 pub mod Opening
 pub mod Legality
+pub mod Reading

@@ -3,15 +3,18 @@ use Rattle.std.proofs.Common.{◌≡◌, ℕ, ◌+◌, ◌<◌, false, eqb, List
 use Rattle.std.proofs.lemmas.Bool.{or_parts, ne_eqb}
 use Rattle.std.proofs.lemmas.List.{take-append-drop, take_more}
 use Rattle.dlog.specs.Lines.{onto_first, lines_of}
-use Rattle.dlog.specs.Progress.{has_feed, IsFirstLine}
+use Rattle.dlog.specs.RunStates.{has_feed, IsFirstLine}
 
+-- no line feed is among bytes where none is among their parts
 feed_parts : (b : ℕ) (bytes : List ℕ) → has_feed (b ∷ bytes) ≡ false → (eqb b 10 ≡ false) × (has_feed bytes ≡ false)
 feed_parts b bytes h = or_parts (eqb b 10) (has_feed bytes) h
 
+-- bytes without a line feed, and others
 pub feed_both : (a b : List ℕ) → has_feed a ≡ false → has_feed b ≡ false → has_feed (a ++ b) ≡ false
 feed_both [] b h k = k
 feed_both (x ∷ a) b h k = let p = feed_parts x a h in rw p.0 (feed_both a b p.1 k)
 
+-- a byte that is no line feed stands in front of the first line
 no_feed : (b : ℕ) (bytes : List ℕ) → eqb b 10 ≡ false → lines_of (b ∷ bytes) ≡ onto_first b (lines_of bytes)
 no_feed b bytes h = rw h refl
 
@@ -31,10 +34,12 @@ pub record BeginsLine (front more : List ℕ) : Type 0 where
   pub later : List (List ℕ)
   pub parts : lines_of (front ++ more) ≡ (front ++ tail) ∷ later
 
+-- a first line of one byte and what follows
 begins_go : (b : ℕ) (more : List ℕ) (ls : List (List ℕ)) → lines_of (b ∷ more) ≡ onto_first b ls → BeginsLine (b ∷ []) more
 begins_go b more [] e = record { tail = []; later = []; parts = e }
 begins_go b more (l ∷ ls) e = record { tail = l; later = ls; parts = e }
 
+-- bytes without a line feed begin the first line
 pub lines_begin : (b : ℕ) (bytes more : List ℕ) → has_feed (b ∷ bytes) ≡ false → BeginsLine (b ∷ bytes) more
 lines_begin b [] more h = begins_go b more (lines_of more) (no_feed b more (feed_parts b [] h).0)
 lines_begin b (c ∷ bytes) more h =

@@ -1,5 +1,5 @@
 ghost use Rattle.std.specs.Prelude.{◌≡◌, ◌+◌, ◌<◌, ◌≤◌, ◌++◌, [], length, OnOk, IfOk, None, false};
-ghost use Rattle.dlog.specs.Progress.{Progress, TakesLine, TakesBytes, Feeds, IsReady, begun, ends_as, ended_with, has_feed, behind, limit_of, size_of};
+ghost use Rattle.dlog.specs.RunStates.{RunState, TakesLine, TakesBytes, Feeds, IsReady, new_run, ends_as, outcome_at, has_feed, behind, limit_of, size_of};
 ghost use Rattle.dlog.specs.Machine.{Within};
 ghost use Rattle.dlog.specs.Run.{line_limit, schedule_limit};
 
@@ -36,9 +36,9 @@ pub struct Run {
 }
 
 impl Model for Run {
-    ghost use Rattle.dlog.specs.Progress.{Progress};
+    ghost use Rattle.dlog.specs.RunStates.{RunState};
 
-    ghost Value = { Progress };
+    ghost Value = { RunState };
 
     ghost view = { λ r. record {
       state = r.machine;
@@ -52,7 +52,7 @@ impl Model for Run {
 impl Run {
     /// A run that has taken nothing yet.
     pub fn new(alloc: Global) -> Run
-        ensures new { result ≡ begun }
+        ensures new { result ≡ new_run }
         ensures ready { IsReady result }
     {
         Run {
@@ -93,7 +93,7 @@ impl Run {
     /// Takes the end of the bytes: what is pending is the last line.
     pub fn end(&mut self) -> Result<Ended, NoMemory>
         requires { IsReady self.old }
-        ensures { IfOk result (λ ended. ends_as self.old [] ≡ ended_with self.new ended) }
+        ensures { IfOk result (λ ended. ends_as self.old [] ≡ outcome_at self.new ended) }
     {
         if self.pending.is_empty() {
             return Ok(Ended::Done);

@@ -1,6 +1,6 @@
 ghost use Rattle.std.specs.Prelude.{◌≡◌, ◌++◌, IfOk, MatchOption, false};
 ghost use Rattle.dl_schedule.specs.Faults.{Parses, parsed_early};
-ghost use Rattle.dlog.specs.Progress.{has_feed, IsFirstLine};
+ghost use Rattle.dlog.specs.RunStates.{has_feed, IsFirstLine};
 
 use dl_schedule::early::parse_early;
 use dl_schedule::fault::LineFault;

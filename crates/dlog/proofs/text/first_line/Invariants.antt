@@ -1,5 +1,5 @@
 use Rattle.std.proofs.Common.{◌≡◌, false, take}
-use Rattle.dlog.specs.Progress.{has_feed}
+use Rattle.dlog.specs.RunStates.{has_feed}
 use Rattle.dlog.proofs.text.first_line.Given as goal
 
 abbrev pub invariant-loop-i : goal.invariant-loop-i
