@@ -39,16 +39,24 @@ def run(words, stdin=b"", stdout=None, stderr=None, closed=(), memory=None):
         return opened[-1]
 
     source = subprocess.PIPE if isinstance(stdin, bytes) else stream(stdin, os.O_RDONLY)
-    child = subprocess.Popen(
-        [PROGRAM] + list(words),
-        stdin=source,
-        stdout=stream(stdout, os.O_WRONLY),
-        stderr=stream(stderr, os.O_WRONLY),
-        preexec_fn=prepare,
-    )
+    try:
+        child = subprocess.Popen(
+            [PROGRAM] + list(words),
+            stdin=source,
+            stdout=stream(stdout, os.O_WRONLY),
+            stderr=stream(stderr, os.O_WRONLY),
+            preexec_fn=prepare,
+        )
+    except OSError:
+        if memory is None:
+            raise
+        return None, b"", b""  # the program didn't begin in this room
+    finally:
+        given = list(opened)
+        opened.clear()
+        for number in given:
+            os.close(number)
     out, err = child.communicate(stdin if isinstance(stdin, bytes) else None, timeout=120)
-    for number in opened:
-        os.close(number)
     return child.returncode, out, err
 
 
