@@ -3,6 +3,6 @@
 
 pub mod event;
 pub mod events;
-pub mod law;
+pub mod laws;
 pub mod print;
 pub mod verb;

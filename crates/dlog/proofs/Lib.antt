@@ -1,12 +1,12 @@
 pub mod MachineLemmas
-pub mod LineLemmas
 pub mod RunLemmas
 pub mod ReplayLemmas
 pub mod Rules
 pub mod Leads
 pub mod Rows
-pub mod Progress
+pub mod WriterHistories
 pub mod Coupled
 pub mod Steps
 pub mod Opening
 pub mod Legality
+pub mod Reading

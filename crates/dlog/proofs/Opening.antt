@@ -20,6 +20,7 @@ IsDue n (step.Append c txid payload) = 5 < n
 IsDue n (step.Flush c) = 5 < n
 IsDue n _ = Unit {0}
 
+-- a step of a free line is due behind the sixth
 free_is_due : (n : ℕ) (x : Step) → 5 < n → IsFree x → IsDue n x
 free_is_due n (step.Append c txid payload) h w = h
 free_is_due n (step.Flush c) h w = h
@@ -51,6 +52,7 @@ pub record Opens (n : ℕ) (s : State) : Type 0 where
   pub log : n < 6 → s.log ≡ None
   pub order : n < 5 → NoOpen s.order
 
+-- nothing is open at the start
 pub start_opens : Opens 0 start
 start_opens = record { log = λ _. refl; order = λ _. tt }
 
@@ -64,16 +66,20 @@ due_may n s (step.Append c txid payload) due o = tt
 due_may n s (step.Flush c) due o = tt
 due_may n s step.Settle due o = tt
 
+-- what is not open by now is not open a line before
 later : (n : ℕ) (s : State) → Opens n s → Opens (n + 1) s
 later n s o = record { log = λ k. o.log (omega arith); order = λ k. o.order (omega arith) }
 
+-- behind the sixth line a log may be open
 opened : (n : ℕ) (s : State) → 5 < n → Opens n s
 opened n s h = record { log = λ k. absurd (omega arith); order = λ k. absurd (omega arith) }
 
+-- what is confirmed opens nothing
 confirm_opens : (n sessions : ℕ) (o : Option Order) (log : Option Log) → Opens n (state sessions o log) → Opens n (on_log confirm [] (state sessions o log) log).0
 confirm_opens n sessions o None h = h
 confirm_opens n sessions o (Some g) h = record { log = λ k. absurd (let clash : Some g ≡ None = h.log k in cc); order = h.order }
 
+-- an order that ends before the fifth line opens nothing
 finish_opens : (n sessions : ℕ) (o : Option Order) (log : Option Log) → n < 5 → Opens n (state sessions o log) → Opens n (finish (state sessions o log) o).0
 finish_opens n sessions None log le h = h
 finish_opens n sessions (Some (order.Create c stream)) log le h = record { log = h.log; order = λ k. tt }

@@ -42,6 +42,7 @@ pub slice_get_at : {A : Type 0} (front : List A) (x : A) (back : List A) → sli
 slice_get_at [] x back = refl
 slice_get_at (y ∷ front) x back = slice_get_at front x back
 
+-- the last of a list that was added to
 last_or_push : {A : Type 0} (d : A) (xs : List A) (x : A) → last_or d (xs ++ x ∷ []) ≡ x
 last_or_push d [] x = refl
 last_or_push d (y ∷ xs) x = last_or_push y xs x
@@ -50,24 +51,30 @@ last_or_push d (y ∷ xs) x = last_or_push y xs x
 pub le_more : (n m k : ℕ) → n ≤ m → nat_le k n ≡ true → nat_le k m ≡ true
 le_more n m k le h = le-leb k m (omega (arith, leb-true k n h))
 
+-- a number up to n is none above it
 not_above : (n m k : ℕ) → n < m → nat_le k n ≡ true → (k == m) ≡ false
 not_above n m k below h = ne_eqb k m (λ e. omega (arith, leb-true k n h))
 
+-- no number of a list is above all of them
 pub none_above : (n m : ℕ) (xs : List ℕ) → n < m → list_all (λ k. nat_le k n) xs ≡ true → has m xs ≡ false
 none_above n m xs below h = none_by (λ k. nat_le k n) (λ k. k == m) (λ k le. not_above n m k below le) xs h
 
+-- no row has a number above all of theirs
 none_from : (c n m : ℕ) (rows : List Row) → n < m → list_all (λ (r : Row). nat_le r.origin.call n) rows ≡ true → list_any (is_from c m) rows ≡ false
 none_from c n m rows below h =
     none_by (λ (r : Row). nat_le r.origin.call n) (is_from c m) (λ r le. and_right (r.origin.client == c) (r.origin.call == m) (not_above n m r.origin.call below le)) rows h
 
 -- places
 
+-- places are in order
 pub before_trans : (a b c : Dlsn) → is_before a b ≡ true → is_before b c ≡ true → is_before a c ≡ true
 before_trans a b c h k = grind (arith, nat_tests)
 
+-- the next slot is above a slot
 before_slot : (k e s : ℕ) → is_before (place k e s) (place k e (s + 1)) ≡ true
 before_slot k e s = grind (arith, nat_tests)
 
+-- the next entry is above a slot
 before_entry : (k e s : ℕ) → is_before (place k e s) (place k (e + 1) 0) ≡ true
 before_entry k e s = grind (arith, nat_tests)
 
@@ -99,6 +106,7 @@ in_turn_at : (c : ℕ) (old front : List Row) (r : Row) (back : List Row) → In
 in_turn_at c old [] r back h = subst (λ xs. Follows c xs r) (sym (append-nil old)) h.0
 in_turn_at c old (x ∷ front) r back h = subst (λ xs. Follows c xs r) (append_assoc old (x ∷ []) front) (in_turn_at c (old ++ x ∷ []) front r back h.1)
 
+-- a row follows those before it
 pub follows_at : (c : ℕ) (rows front : List Row) (r : Row) (back : List Row) → rows ≡ front ++ r ∷ back → InTurn c [] rows → Follows c front r
 follows_at c rows front r back e h = in_turn_at c [] front r back (subst (InTurn c []) e h)
 
@@ -110,6 +118,7 @@ pub record TookRows (g : Log) (rows : List Row) : Type 0 where
   pub places : list_all (λ r. is_before r.place (place segment g.sent (length g.filling))) rows ≡ true
   pub calls : list_all (λ r. nat_le r.origin.call g.taken) rows ≡ true
 
+-- a new log has taken no row
 pub took_none : (c : ℕ) (stream : List ℕ) → TookRows (new_log c stream) []
 took_none c stream = record { in_turn = tt; count = refl; last = refl; places = refl; calls = refl }
 
@@ -145,6 +154,7 @@ took_take g rows txid payload le t =
           (le-leb (g.taken + 1) (g.taken + 1) (omega arith));
     }
 
+-- an entry is sent
 pub took_send : (g : Log) (rows : List Row) → TookRows g rows → TookRows (send g).0 rows
 unfolding send
 took_send g rows t = record {
@@ -156,6 +166,7 @@ took_send g rows t = record {
   calls = t.calls;
 }
 
+-- the entries are confirmed
 pub took_confirm : (g : Log) (rows : List Row) → TookRows g rows → TookRows (confirm g).0 rows
 unfolding confirm
 took_confirm g rows t = record { in_turn = t.in_turn; count = t.count; last = t.last; places = t.places; calls = t.calls }

@@ -5,25 +5,25 @@ use Rattle.dl_schedule.specs.declared.step.Step.{Step}
 use Rattle.dl_schedule.specs.declared.step.Step.TheVariants as step
 use Rattle.dl_transcript.specs.declared.event.Event.{Event}
 use Rattle.dl_transcript.specs.declared.event.Event.TheVariants.{Joined, Created, Writer, Nothing}
-use Rattle.dl_transcript.specs.Legal.{Seen, StreamSeen, new_stream, new_client, nothing_seen, has, keeps, sees}
+use Rattle.dl_transcript.specs.Legal.{History, StreamHistory, new_stream, new_client, no_history, has, keeps, sees}
 use Rattle.dl_transcript.proofs.Runs.{Keeps, none, more}
 use Rattle.dlog.specs.declared.order.Order.{Order}
 use Rattle.dlog.specs.declared.order.Order.TheVariants as order
-use Rattle.dlog.specs.Machine.{Log, State, Shown, start, new_log, segment, append, flush, confirm, on_log, finish, settle, one}
+use Rattle.dlog.specs.Machine.{Log, State, Effect, start, new_log, segment, append, flush, confirm, on_log, finish, settle, one}
 use Rattle.dlog.proofs.Leads.{Leads, leads_none, leads_one, leads_both, leads_to}
 use Rattle.dlog.proofs.Rules.{keeps_joined, keeps_writer}
 use Rattle.dlog.proofs.Rows.{took_none}
-use Rattle.dlog.proofs.Progress.{writer_fits}
+use Rattle.dlog.proofs.WriterHistories.{writer_fits}
 use Rattle.dlog.proofs.Coupled.{LogFits, ActLeads, append_leads, flush_leads, confirm_leads}
 
 -- sessions alone were seen
-pub record NoneSeen (sessions : ℕ) (s : Seen) : Type 0 where
+pub record NoneSeen (sessions : ℕ) (s : History) : Type 0 where
   pub joined : s.sessions ≡ sessions
   pub streams : (stream : List ℕ) → s.streams stream ≡ new_stream
   pub clients : (c : ℕ) → s.clients c ≡ new_client
 
 -- what was seen of the log that was opened, or of none
-abbrev pub LogSeen : ℕ → Option Log → Seen → Type 0
+abbrev pub LogSeen : ℕ → Option Log → History → Type 0
 LogSeen sessions None s = NoneSeen sessions s
 LogSeen sessions (Some g) s = LogFits sessions g s
 
@@ -33,15 +33,16 @@ OrderFits None o = Unit {0}
 OrderFits (Some g) o = o ≡ None
 
 -- a machine, and what was seen of it
-pub record Coupled (s : State) (seen : Seen) : Type 0 where
+pub record Coupled (s : State) (seen : History) : Type 0 where
   pub log : LogSeen s.sessions s.log seen
   pub order : OrderFits s.log s.order
 
-pub start_coupled : Coupled start nothing_seen
+-- at the start nothing was seen
+pub start_coupled : Coupled start no_history
 start_coupled = record { log = record { joined = refl; streams = λ stream. refl; clients = λ c. refl }; order = tt }
 
 -- what an act of the machine shows leads to what fits the machine that it leaves
-abbrev pub StepLeads : Seen → Shown State → Type 0
+abbrev pub StepLeads : History → Effect State → Type 0
 StepLeads seen act = Leads (Coupled act.0) seen act.1
 
 -- a machine of these parts
@@ -50,15 +51,18 @@ state sessions o log = record { sessions = sessions; order = o; log = log }
 
 -- joining
 
-sessions_seen : (sessions : ℕ) (log : Option Log) (s : Seen) → LogSeen sessions log s → s.sessions ≡ sessions
+-- the sessions are those that were seen
+sessions_seen : (sessions : ℕ) (log : Option Log) (s : History) → LogSeen sessions log s → s.sessions ≡ sessions
 sessions_seen sessions None s h = h.joined
 sessions_seen sessions (Some g) s h = h.seen.joined
 
-seen_with : (sessions k : ℕ) (log : Option Log) (s : Seen) → LogSeen sessions log s → LogSeen k log (record s { sessions = k })
+-- a session more changes nothing else
+seen_with : (sessions k : ℕ) (log : Option Log) (s : History) → LogSeen sessions log s → LogSeen k log (record s { sessions = k })
 seen_with sessions k None s h = record { joined = refl; streams = h.streams; clients = h.clients }
 seen_with sessions k (Some g) s h = record { rows = h.rows; grown = h.grown; took = h.took; parts = h.parts; seen = record { joined = refl; rows = h.seen.rows; records = h.seen.records } }
 
-join_leads : (s : State) (c : ℕ) (seen : Seen) → Coupled s seen → StepLeads seen (record s { sessions = s.sessions + 1 }, Joined c (s.sessions + 1) ∷ [])
+-- a client joins
+join_leads : (s : State) (c : ℕ) (seen : History) → Coupled s seen → StepLeads seen (record s { sessions = s.sessions + 1 }, Joined c (s.sessions + 1) ∷ [])
 unfolding sees
 join_leads s c seen h =
     leads_one (Coupled (record s { sessions = s.sessions + 1 })) seen (Joined c (s.sessions + 1))
@@ -72,21 +76,23 @@ order_free : (log : Option Log) (o : Option Order) → log ≡ None → OrderFit
 order_free None o e = tt
 order_free (Some g) o e = absurd (none-some g (sym e))
 
-order_leads : (s : State) (o : Order) (seen : Seen) → s.log ≡ None → Coupled s seen → StepLeads seen (record s { order = Some o }, [])
+-- an order is under way, and nothing is shown
+order_leads : (s : State) (o : Order) (seen : History) → s.log ≡ None → Coupled s seen → StepLeads seen (record s { order = Some o }, [])
 order_leads s o seen e h = leads_none (Coupled (record s { order = Some o })) seen (record { log = h.log; order = order_free s.log (Some o) e })
 
+-- no order may be under way beside any log
 no_order : (log : Option Log) → OrderFits log None
 no_order None = tt
 no_order (Some g) = refl
 
 -- a log is opened: its client is the writer of the first segment
-writer_leads : (sessions : ℕ) (c : ℕ) (stream : List ℕ) (seen : Seen) → NoneSeen sessions seen → StepLeads seen (state sessions None (Some (new_log c stream)), Writer c stream segment ∷ [])
+writer_leads : (sessions : ℕ) (c : ℕ) (stream : List ℕ) (seen : History) → NoneSeen sessions seen → StepLeads seen (state sessions None (Some (new_log c stream)), Writer c stream segment ∷ [])
 writer_leads sessions c stream seen h =
     leads_one (Coupled (state sessions None (Some (new_log c stream)))) seen (Writer c stream segment)
     (keeps_writer seen c stream segment (record {
       counted = omega arith;
-      within = omega (arith, ap (λ (x : StreamSeen). x.closed) (h.streams stream));
-      fresh = ap (λ (x : StreamSeen). has segment x.writers) (h.streams stream);
+      within = omega (arith, ap (λ (x : StreamHistory). x.closed) (h.streams stream));
+      fresh = ap (λ (x : StreamHistory). has segment x.writers) (h.streams stream);
     }))
     (record {
       log = record { rows = []; grown = []; took = took_none c stream; parts = refl; seen = writer_fits sessions c stream seen h.joined (h.streams stream) (h.clients c) };
@@ -94,7 +100,7 @@ writer_leads sessions c stream seen h =
     })
 
 -- the order under way ends
-finish_leads : (sessions : ℕ) (o : Option Order) (log : Option Log) (seen : Seen) → Coupled (state sessions o log) seen → StepLeads seen (finish (state sessions o log) o)
+finish_leads : (sessions : ℕ) (o : Option Order) (log : Option Log) (seen : History) → Coupled (state sessions o log) seen → StepLeads seen (finish (state sessions o log) o)
 unfolding keeps sees
 finish_leads sessions None log seen h = leads_none (Coupled (state sessions None log)) seen h
 finish_leads sessions (Some (order.Create c stream)) log seen h = leads_one (Coupled (state sessions None log)) seen (Created c stream) refl (record { log = h.log; order = no_order log })
@@ -103,21 +109,24 @@ finish_leads sessions (Some (order.Open c stream)) (Some g) seen h = absurd (non
 
 -- acts of the log
 
-on_log_leads : (f : Log → Shown Log) (other : List Event) (sessions : ℕ) (o : Option Order) (log : Option Log) (seen : Seen) → ((g : Log) → LogFits sessions g seen → ActLeads sessions seen (f g)) → Keeps seen other seen
+-- an act of the log that was opened, or what is shown without one
+on_log_leads : (f : Log → Effect Log) (other : List Event) (sessions : ℕ) (o : Option Order) (log : Option Log) (seen : History) → ((g : Log) → LogFits sessions g seen → ActLeads sessions seen (f g)) → Keeps seen other seen
     → Coupled (state sessions o log) seen → StepLeads seen (on_log f other (state sessions o log) log)
 on_log_leads f other sessions o None seen acts k h = record { seen = seen; keep = k; fits = h }
 on_log_leads f other sessions o (Some g) seen acts k h =
     leads_to (LogFits sessions (f g).0) (Coupled (state sessions o (Some (f g).0))) seen (f g).1 (λ t fit. record { log = fit; order = h.order }) (acts g h.log)
 
-nothing_kept : (seen : Seen) → Keeps seen (Nothing ∷ []) seen
+-- that nothing changed has no rule
+nothing_kept : (seen : History) → Keeps seen (Nothing ∷ []) seen
 unfolding keeps sees
 nothing_kept seen = more refl none
 
-settle_leads : (s : State) (seen : Seen) → Coupled s seen → StepLeads seen (settle s)
+-- the order under way ends, and the entries are confirmed
+settle_leads : (s : State) (seen : History) → Coupled s seen → StepLeads seen (settle s)
 unfolding settle
 settle_leads s seen h =
-    let now : Shown State = finish s s.order in
-    let then : Shown State = on_log confirm [] now.0 now.0.log in
+    let now : Effect State = finish s s.order in
+    let then : Effect State = on_log confirm [] now.0 now.0.log in
     leads_both (Coupled now.0) (Coupled then.0) seen now.1 then.1 (finish_leads s.sessions s.order s.log seen h)
     (λ t k. on_log_leads confirm [] now.0.sessions now.0.order now.0.log t (λ g fit. confirm_leads now.0.sessions g t fit) none k)
 
@@ -128,7 +137,7 @@ MayStep log (step.Open c stream) = log ≡ None
 MayStep log _ = Unit {0}
 
 -- each step leads to what fits the machine behind it
-pub one_leads : (s : State) (x : Step) (seen : Seen) → MayStep s.log x → Coupled s seen → StepLeads seen (one s x)
+pub one_leads : (s : State) (x : Step) (seen : History) → MayStep s.log x → Coupled s seen → StepLeads seen (one s x)
 unfolding one
 one_leads s (step.Setup bookies ensemble write_quorum ack_quorum) seen may h = leads_none (Coupled s) seen h
 one_leads s (step.Join c) seen may h = join_leads s c seen h

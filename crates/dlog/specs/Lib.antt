@@ -1,8 +1,8 @@
 pub mod Machine
 pub mod Entries
 pub mod Counts
-pub mod Lines
 pub mod Run
-pub mod Progress
+pub mod RunStates
+pub mod Commands
 pub mod Answers
 pub mod Laws

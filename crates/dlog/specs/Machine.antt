@@ -15,9 +15,11 @@ use Rattle.dlog.specs.declared.order.Order.TheVariants as order
 abbrev pub payload_limit : ℕ
 payload_limit = 1040384
 
+-- the most bytes of an entry
 abbrev pub entry_limit : ℕ
 entry_limit = 1048576
 
+-- the most entries that may be sent and unconfirmed
 abbrev pub window : ℕ
 window = 64
 
@@ -29,11 +31,12 @@ segment = 1
 abbrev pub record_size : ℕ → ℕ
 record_size bytes = 20 + bytes
 
+-- the bytes of an entry: a header, and its records
 abbrev pub entry_size : List Row → ℕ
 entry_size rows = 8 + sum_by (λ (r : Row). record_size (length r.payload)) rows
 
 -- a log that a client writes: how many records were taken, and the id of the last one (0 before the first); how many
--- entries were sent; the rows of those sent and not confirmed, entry by entry; the rows of the entry under way
+-- entries were sent; the rows of those sent and not entry_events, entry by entry; the rows of the entry under way
 pub record Log : Type 0 where
   pub client : ℕ
   pub stream : List ℕ
@@ -49,9 +52,11 @@ pub record State : Type 0 where
   pub order : Option Order
   pub log : Option Log
 
+-- the machine before the first step
 abbrev pub start : State
 start = record { sessions = 0; order = None; log = None }
 
+-- a log into which nothing was taken yet
 abbrev pub new_log : ℕ → List ℕ → Log
 new_log client stream = record { client = client; stream = stream; taken = 0; last = 0; sent = 0; waiting = []; filling = [] }
 
@@ -65,37 +70,38 @@ next_row g txid payload = record {
 }
 
 -- what an act leaves, and what it shows
-abbrev pub Shown : Type 0 → Type 0
-Shown A = A × List Event
+abbrev pub Effect : Type 0 → Type 0
+Effect A = A × List Event
 
 -- the record is taken into the entry under way
-unfoldable pub take : Log → ℕ → List ℕ → Shown Log
+unfoldable pub take : Log → ℕ → List ℕ → Effect Log
 take g txid payload = (
   record g { taken = g.taken + 1; last = txid; filling = g.filling ++ next_row g txid payload ∷ [] },
   Took g.client (g.taken + 1) g.stream txid payload ∷ [],
 )
 
 -- the entry under way is sent
-unfoldable pub send : Log → Shown Log
+unfoldable pub send : Log → Effect Log
 send g = (
   record g { sent = g.sent + 1; waiting = g.waiting ++ g.filling ∷ []; filling = [] },
   Sent g.client segment g.sent ∷ [],
 )
 
 -- the entry under way is sent first, and the record begins the next one
-unfoldable pub send_and_take : Log → ℕ → List ℕ → Shown Log
+unfoldable pub send_and_take : Log → ℕ → List ℕ → Effect Log
 send_and_take g txid payload = ((take (send g).0 txid payload).0, (send g).1 ++ (take (send g).0 txid payload).1)
 
 -- the record fits the entry under way
 abbrev pub fits : Log → List ℕ → Bool
 fits g payload = nat_le (entry_size g.filling + record_size (length payload)) entry_limit
 
+-- no further entry may be sent
 abbrev pub is_window_full : Log → Bool
 is_window_full g = nat_le window (length g.waiting)
 
 -- a record is refused as too long, then as going back, then because the entry under way would have to be sent while
 -- the window is full
-unfoldable pub append : Log → ℕ → List ℕ → Shown Log
+unfoldable pub append : Log → ℕ → List ℕ → Effect Log
 append g txid payload =
     if nat_lt payload_limit (length payload) then (g, Refused g.client (TooLong (length payload)) ∷ [])
     else if nat_lt txid g.last then (g, Refused g.client (TxidBack g.last txid) ∷ [])
@@ -104,7 +110,7 @@ append g txid payload =
     else send_and_take g txid payload
 
 -- the entry under way is sent, where it has a record and the window isn't full
-unfoldable pub flush : Log → Shown Log
+unfoldable pub flush : Log → Effect Log
 flush g =
     if length g.filling == 0 then (g, Nothing ∷ [])
     else if is_window_full g then (g, Refused g.client WindowFull ∷ [])
@@ -114,36 +120,37 @@ flush g =
 abbrev pub grow : List ℕ → Row → Event
 grow stream r = Grow stream r.place r.txid r.origin.client r.origin.call r.payload
 
+-- a row is acknowledged
 abbrev pub ack : Row → Event
 ack r = Ack r.origin.client r.origin.call r.place
 
 -- an entry is confirmed: its rows grow by place, and then they are acknowledged by place
-abbrev pub confirmed : List ℕ → List Row → List Event
-confirmed stream rows = map (grow stream) rows ++ map ack rows
+abbrev pub entry_events : List ℕ → List Row → List Event
+entry_events stream rows = map (grow stream) rows ++ map ack rows
 
 -- each entry that was sent is confirmed, in order
-unfoldable pub confirm : Log → Shown Log
-confirm g = (record g { waiting = [] }, flat_map (confirmed g.stream) g.waiting)
+unfoldable pub confirm : Log → Effect Log
+confirm g = (record g { waiting = [] }, flat_map (entry_events g.stream) g.waiting)
 
 -- an act of the log that was opened; without one the machine stays and shows this
-abbrev pub on_log : (Log → Shown Log) → List Event → State → Option Log → Shown State
+abbrev pub on_log : (Log → Effect Log) → List Event → State → Option Log → Effect State
 on_log f other s None = (s, other)
 on_log f other s (Some g) = (record s { log = Some (f g).0 }, (f g).1)
 
 -- the order under way ends well
-abbrev pub finish : State → Option Order → Shown State
+abbrev pub finish : State → Option Order → Effect State
 finish s None = (s, [])
 finish s (Some (order.Create c stream)) = (record s { order = None }, Created c stream ∷ [])
 finish s (Some (order.Open c stream)) = (record s { order = None; log = Some (new_log c stream) }, Writer c stream segment ∷ [])
 
 -- the order under way ends, and then the entries that were sent are confirmed
-unfoldable pub settle : State → Shown State
+unfoldable pub settle : State → Effect State
 settle s =
     let now = finish s s.order in
     ((on_log confirm [] now.0 now.0.log).0, now.1 ++ (on_log confirm [] now.0 now.0.log).1)
 
 -- one step, and what it shows
-unfoldable pub one : State → Step → Shown State
+unfoldable pub one : State → Step → Effect State
 one s (step.Setup bookies ensemble write_quorum ack_quorum) = (s, [])
 one s (step.Join c) = (record s { sessions = s.sessions + 1 }, Joined c (s.sessions + 1) ∷ [])
 one s (step.Create c stream) = (record s { order = Some (order.Create c stream) }, [])

@@ -7,13 +7,14 @@ use Rattle.dl_transcript.specs.declared.event.Event.{Event}
 use Rattle.dl_transcript.specs.Lines.{numbered, print_transcript}
 use Rattle.dlog.specs.declared.ended.Ended.{Ended}
 use Rattle.dlog.specs.declared.ended.Ended.TheVariants.{Done, BadLine, Limit}
-use Rattle.dlog.specs.Lines.{lines_of}
+use Rattle.dl_text.specs.TextLines.{lines_of}
 use Rattle.dlog.specs.Machine.{State, start, one}
 
--- the most lines and bytes of a schedule
+-- the most lines of a schedule
 abbrev pub line_limit : ℕ
 line_limit = 1000000
 
+-- the most bytes of a schedule
 abbrev pub schedule_limit : ℕ
 schedule_limit = 16777216
 
@@ -22,23 +23,25 @@ pub record Schedule : Type 0 where
   pub steps : List Step
   pub ended : Ended
 
-abbrev pub stops : Ended → Schedule
-stops ended = record { steps = []; ended = ended }
+-- no steps, and this stop
+abbrev pub no_steps : Ended → Schedule
+no_steps ended = record { steps = []; ended = ended }
 
 -- a line that was read goes before what follows; one that was not is the stop
-abbrev pub said : ℕ → Result Step ℕ → Schedule → Schedule
-said line (Ok step) rest = record { steps = step ∷ rest.steps; ended = rest.ended }
-said line (Err column) rest = stops (BadLine line column)
+abbrev pub with_line : ℕ → Result Step ℕ → Schedule → Schedule
+with_line line (Ok step) rest = record { steps = step ∷ rest.steps; ended = rest.ended }
+with_line line (Err column) rest = no_steps (BadLine line column)
 
 -- Behind so many lines and bytes: a line stops the run where it is past the limit on lines, then where it ends past the
 -- limit on bytes, then where it is outside the grammar.
 unfoldable pub schedule_from : ℕ → ℕ → List (List ℕ) → Schedule
-schedule_from n bytes [] = stops Done
+schedule_from n bytes [] = no_steps Done
 schedule_from n bytes (line ∷ lines) =
-    if nat_le line_limit n then stops (Limit Lines line_limit)
-    else if nat_lt schedule_limit (bytes + length line) then stops (Limit Bytes schedule_limit)
-    else said (n + 1) (parsed_early (n + 1) line) (schedule_from (n + 1) (bytes + length line) lines)
+    if nat_le line_limit n then no_steps (Limit Lines line_limit)
+    else if nat_lt schedule_limit (bytes + length line) then no_steps (Limit Bytes schedule_limit)
+    else with_line (n + 1) (parsed_early (n + 1) line) (schedule_from (n + 1) (bytes + length line) lines)
 
+-- the steps that a text says, up to its stop
 abbrev pub schedule : List ℕ → Schedule
 schedule input = schedule_from 0 0 (lines_of input)
 
@@ -47,8 +50,13 @@ unfoldable pub shown_from : State → ℕ → List Step → List (ℕ × Event)
 shown_from s n [] = []
 shown_from s n (step ∷ steps) = numbered (n + 1) (one s step).1 ++ shown_from (one s step).0 (n + 1) steps
 
+-- what the machine shows for these steps from its start on
 abbrev pub transcript : List Step → List (ℕ × Event)
 transcript steps = shown_from start 0 steps
+
+-- the transcript of the run over a text, up to its stop
+abbrev pub run_transcript : List ℕ → List (ℕ × Event)
+run_transcript input = transcript (schedule input).steps
 
 -- what a run prints, and how it ends
 pub record Outcome : Type 0 where
@@ -58,6 +66,6 @@ pub record Outcome : Type 0 where
 -- the run over all lines of a text up to its stop
 unfoldable pub run : List ℕ → Outcome
 run input = record {
-  text = print_transcript (transcript (schedule input).steps);
+  text = print_transcript (run_transcript input);
   ended = (schedule input).ended;
 }

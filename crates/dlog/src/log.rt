@@ -1,6 +1,6 @@
 ghost use Rattle.std.specs.Prelude.{◌≡◌, ◌+◌, ◌<◌, ◌≤◌, ◌++◌, ◌∷◌, [], length, OnOk, nat_le, map, ◌^◌, List};
 ghost use Rattle.std.specs.List.{flat_map};
-ghost use Rattle.dlog.specs.Machine.{new_log, take, send, append, flush, confirm, confirmed, grow, ack, entry_size, record_size, entry_limit, is_window_full};
+ghost use Rattle.dlog.specs.Machine.{new_log, take, send, append, flush, confirm, entry_events, grow, ack, entry_size, record_size, entry_limit, is_window_full};
 ghost use Rattle.dlog.specs.Counts.{HasRoom};
 
 use crate::entry::Entry;
@@ -245,9 +245,9 @@ fn show_acks(rows: &[Row], events: &mut Events) -> Result<(), NoMemory>
     Ok(())
 }
 
-/// Shows that the entries are confirmed, in order.
+/// Shows that the entries are entry_events, in order.
 fn show_entries(stream: &Name, entries: &[Entry], events: &mut Events) -> Result<(), NoMemory>
-    ensures { OnOk result (events.new ≡ events.old ++ flat_map (confirmed stream.now) entries.now) }
+    ensures { OnOk result (events.new ≡ events.old ++ flat_map (entry_events stream.now) entries.now) }
 {
     for entry in entries {
         show_grows(stream, entry.rows(), events)?;

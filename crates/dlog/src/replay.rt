@@ -4,8 +4,8 @@ ghost use Rattle.dl_io.specs.Causes.{Rose, HasCause};
 ghost use Rattle.dl_io.specs.Sinks.{FinishesAll, GivesFront};
 ghost use Rattle.dl_types.specs.declared.status.Status.{Status};
 ghost use Rattle.dlog.specs.declared.replay.ReadStop.TheVariants.{Fault, NoMemory as Exhausted};
-ghost use Rattle.dlog.specs.Answers.{Took, TookFront, Replayed, status_of};
-ghost use Rattle.dlog.specs.Progress.{IsReady, begun};
+ghost use Rattle.dlog.specs.Answers.{ReadsToEnd, ReadsFront, Replays, status_of};
+ghost use Rattle.dlog.specs.RunStates.{IsReady, new_run};
 
 use crate::ended::Ended;
 use crate::run::Run;
@@ -59,8 +59,8 @@ fn read_pieces<S: Source>(
 ) -> Result<Ended, ReadStop>
     requires ready { IsReady run.old }
     requires room { 0 < length piece.old }
-    ensures took { IfOk result (Took (S.left source.old) (S.left source.new) run.old run.new) }
-    ensures front { TookFront (S.left source.old) (S.left source.new) }
+    ensures reads { IfOk result (ReadsToEnd (S.left source.old) (S.left source.new) run.old run.new) }
+    ensures front { ReadsFront (S.left source.old) (S.left source.new) }
     ensures cause { IsErrOf result ReadStop.Fault → Rose (S.read_faults source.old) (S.read_faults source.new) }
 {
     loop {
@@ -77,8 +77,8 @@ fn read_pieces<S: Source>(
 /// Brings a run to the end of the input or to its stop.
 fn read_run<S: Source>(alloc: Global, source: &mut S, run: &mut Run) -> Result<Ended, ReadStop>
     requires { IsReady run.old }
-    ensures took { IfOk result (Took (S.left source.old) (S.left source.new) run.old run.new) }
-    ensures front { TookFront (S.left source.old) (S.left source.new) }
+    ensures reads { IfOk result (ReadsToEnd (S.left source.old) (S.left source.new) run.old run.new) }
+    ensures front { ReadsFront (S.left source.old) (S.left source.new) }
     ensures cause { IsErrOf result ReadStop.Fault → Rose (S.read_faults source.old) (S.read_faults source.new) }
 {
     let mut piece = make_piece(alloc)?;
@@ -114,8 +114,8 @@ fn replay_run<S: Source, K: Sink>(
     sink: &mut K,
     run: &mut Run,
 ) -> Status
-    requires { run.old ≡ begun }
-    ensures replayed { Replayed (S.left source.old) (S.left source.new) (K.held sink.old) (K.held sink.new) (K.finished sink.old) (K.finished sink.new) result }
+    requires { run.old ≡ new_run }
+    ensures replays { Replays (S.left source.old) (S.left source.new) (K.held sink.old) (K.held sink.new) (K.finished sink.old) (K.finished sink.new) result }
     ensures read { result ≡ Status.ReadFault → Rose (S.read_faults source.old) (S.read_faults source.new) }
     ensures write { result ≡ Status.WriteFault → Rose (K.write_faults sink.old) (K.write_faults sink.new) }
 {
@@ -132,7 +132,7 @@ fn replay_run<S: Source, K: Sink>(
 /// Replays the schedule that the source has left, and gives its transcript to the sink: reads, runs and then gives. The
 /// source is read no further than it takes to know the stop.
 pub fn replay<S: Source, K: Sink>(alloc: Global, source: &mut S, sink: &mut K) -> Status
-    ensures replayed { Replayed (S.left source.old) (S.left source.new) (K.held sink.old) (K.held sink.new) (K.finished sink.old) (K.finished sink.new) result }
+    ensures replays { Replays (S.left source.old) (S.left source.new) (K.held sink.old) (K.held sink.new) (K.finished sink.old) (K.finished sink.new) result }
     ensures read { result ≡ Status.ReadFault → Rose (S.read_faults source.old) (S.read_faults source.new) }
     ensures write { result ≡ Status.WriteFault → Rose (K.write_faults sink.old) (K.write_faults sink.new) }
 {

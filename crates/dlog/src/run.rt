@@ -1,11 +1,13 @@
 ghost use Rattle.std.specs.Prelude.{◌≡◌, ◌+◌, ◌<◌, ◌≤◌, ◌++◌, [], length, OnOk, IfOk, None, false};
-ghost use Rattle.dlog.specs.Progress.{Progress, TakesLine, TakesBytes, Feeds, IsReady, begun, ends_as, ended_with, has_feed, behind, limit_of, size_of};
+ghost use Rattle.dlog.specs.RunStates.{RunState, TakesLine, TakesBytes, Feeds, IsReady, new_run, ends_as, outcome_at, behind, limit_of, size_of};
+ghost use Rattle.dl_text.specs.TextLines.{has_feed};
 ghost use Rattle.dlog.specs.Machine.{Within};
 ghost use Rattle.dlog.specs.Run.{line_limit, schedule_limit};
 
 use crate::ended::Ended;
 use crate::machine::Machine;
-use crate::text::{first_line, read_line};
+use crate::text::read_line;
+use dl_text::line::first_line;
 use dl_schedule::fault::LineFault;
 use dl_schedule::step::Step;
 use dl_transcript::events::Events;
@@ -36,9 +38,9 @@ pub struct Run {
 }
 
 impl Model for Run {
-    ghost use Rattle.dlog.specs.Progress.{Progress};
+    ghost use Rattle.dlog.specs.RunStates.{RunState};
 
-    ghost Value = { Progress };
+    ghost Value = { RunState };
 
     ghost view = { λ r. record {
       state = r.machine;
@@ -52,7 +54,7 @@ impl Model for Run {
 impl Run {
     /// A run that has taken nothing yet.
     pub fn new(alloc: Global) -> Run
-        ensures new { result ≡ begun }
+        ensures new { result ≡ new_run }
         ensures ready { IsReady result }
     {
         Run {
@@ -93,7 +95,7 @@ impl Run {
     /// Takes the end of the bytes: what is pending is the last line.
     pub fn end(&mut self) -> Result<Ended, NoMemory>
         requires { IsReady self.old }
-        ensures { IfOk result (λ ended. ends_as self.old [] ≡ ended_with self.new ended) }
+        ensures { IfOk result (λ ended. ends_as self.old [] ≡ outcome_at self.new ended) }
     {
         if self.pending.is_empty() {
             return Ok(Ended::Done);

@@ -1,8 +1,10 @@
-ghost use Rattle.std.specs.Prelude.{◌≡◌, ◌↔◌, ℕ, Some, None, IsSome};
+ghost use Rattle.std.specs.Prelude.{◌≡◌, ◌↔◌, ℕ, Ok, Err, IsErr};
 ghost use Rattle.dl_io.specs.Causes.{Rose};
-ghost use Rattle.dl_io.specs.Notes.{Noted, note};
-ghost use Rattle.dlog.specs.Answers.{Replayed, GivesLegal, usage_of};
+ghost use Rattle.dl_io.specs.Notes.{Noted, NoteFinished, note};
+ghost use Rattle.dlog.specs.Answers.{Replays};
+ghost use Rattle.dlog.specs.Commands.{command_of};
 
+use crate::command::{Command, command_of};
 use crate::replay::replay;
 use dl_io::notes::write_note;
 use dl_io::traits::{Sink, Source};
@@ -10,47 +12,23 @@ use dl_types::status::Status;
 use dl_types::word::Word;
 use std::alloc::Global;
 
-/// The place of the first word at which no command goes on.
-fn usage(words: &[Word]) -> Option<u64>
-    ensures { result ≡ usage_of words.now }
-{
-    match words {
-        [] => Some(1),
-        [word] => {
-            if word.as_bytes() == b"replay".as_slice() {
-                None
-            } else {
-                Some(1)
-            }
-        }
-        [word, _, ..] => {
-            if word.as_bytes() == b"replay".as_slice() {
-                Some(2)
-            } else {
-                Some(1)
-            }
-        }
-    }
-}
-
 /// What the words ask for is done: `replay`, alone, replays the schedule that the source has left, and gives its
 /// transcript to the sink.
-fn command<S: Source, K: Sink>(
+fn run_words<S: Source, K: Sink>(
     alloc: Global,
     words: &[Word],
     source: &mut S,
     sink: &mut K,
 ) -> Status
-    ensures words { (place : ℕ) → (result ≡ Status.Usage place) ↔ (usage_of words.now ≡ Some place) }
-    ensures untouched { IsSome (usage_of words.now) → (source.new ≡ source.old) × (sink.new ≡ sink.old) }
-    ensures replayed { usage_of words.now ≡ None → Replayed (S.left source.old) (S.left source.new) (K.held sink.old) (K.held sink.new) (K.finished sink.old) (K.finished sink.new) result }
-    ensures legal { usage_of words.now ≡ None → GivesLegal (K.held sink.old) (K.held sink.new) result }
+    ensures usage { (place : ℕ) → (result ≡ Status.Usage place) ↔ (command_of words.now ≡ Err place) }
+    ensures untouched { IsErr (command_of words.now) → (source.new ≡ source.old) × (sink.new ≡ sink.old) }
+    ensures replays { command_of words.now ≡ Ok Command.Replay → Replays (S.left source.old) (S.left source.new) (K.held sink.old) (K.held sink.new) (K.finished sink.old) (K.finished sink.new) result }
     ensures read { result ≡ Status.ReadFault → Rose (S.read_faults source.old) (S.read_faults source.new) }
     ensures write { result ≡ Status.WriteFault → Rose (K.write_faults sink.old) (K.write_faults sink.new) }
 {
-    match usage(words) {
-        Some(place) => Status::Usage { place },
-        None => replay(alloc, source, sink),
+    match command_of(words) {
+        Err(place) => Status::Usage { place },
+        Ok(Command::Replay) => replay(alloc, source, sink),
     }
 }
 
@@ -58,14 +36,14 @@ fn command<S: Source, K: Sink>(
 /// in one line where it isn't a good end.
 ///
 /// - `Usage` names the first word at which no command goes on; then the source and the sink stay as they are.
-/// - `Ok`: the source was read to its end, and the sink holds, finished, exactly the printing of the run over all lines,
-///   which is the printing of a legal transcript.
+/// - `Ok`: the source was read to its end, and the sink holds, finished, exactly the printing of the run over all lines.
+///   The run's transcript is legal.
 /// - `BadSchedule`: the line of this number is the first outside the grammar, at this column, and no line up to it is past
 ///   a limit; `Limit`: a line is past it. The sink holds, finished, exactly the printing of the run over the lines before.
 /// - `ReadFault`, `WriteFault`, `NoMemory`: a read or a write failed, or memory ran out. The sink got some front of the
 ///   printing.
 ///
-/// A fault in writing the note doesn't change the status.
+/// A fault in writing the note doesn't change the status; else the note is finished.
 pub fn dlog_main<S: Source, K: Sink, N: Sink>(
     alloc: Global,
     words: &[Word],
@@ -73,16 +51,16 @@ pub fn dlog_main<S: Source, K: Sink, N: Sink>(
     sink: &mut K,
     notes: &mut N,
 ) -> Status
-    ensures words { (place : ℕ) → (result ≡ Status.Usage place) ↔ (usage_of words.now ≡ Some place) }
-    ensures untouched { IsSome (usage_of words.now) → (source.new ≡ source.old) × (sink.new ≡ sink.old) }
-    ensures replayed { usage_of words.now ≡ None → Replayed (S.left source.old) (S.left source.new) (K.held sink.old) (K.held sink.new) (K.finished sink.old) (K.finished sink.new) result }
-    ensures legal { usage_of words.now ≡ None → GivesLegal (K.held sink.old) (K.held sink.new) result }
+    ensures usage { (place : ℕ) → (result ≡ Status.Usage place) ↔ (command_of words.now ≡ Err place) }
+    ensures untouched { IsErr (command_of words.now) → (source.new ≡ source.old) × (sink.new ≡ sink.old) }
+    ensures replays { command_of words.now ≡ Ok Command.Replay → Replays (S.left source.old) (S.left source.new) (K.held sink.old) (K.held sink.new) (K.finished sink.old) (K.finished sink.new) result }
     ensures read { result ≡ Status.ReadFault → Rose (S.read_faults source.old) (S.read_faults source.new) }
     ensures write { result ≡ Status.WriteFault → Rose (K.write_faults sink.old) (K.write_faults sink.new) }
     ensures noted { Noted (N.held notes.old) (N.held notes.new) (N.write_faults notes.old) (N.write_faults notes.new) (note result) }
+    ensures finished { NoteFinished (N.held notes.new) (N.finished notes.old) (N.finished notes.new) (N.write_faults notes.old) (N.write_faults notes.new) result }
     ensures silent { result ≡ Status.Ok → notes.new ≡ notes.old }
 {
-    let status = command(alloc, words, source, sink);
+    let status = run_words(alloc, words, source, sink);
     write_note(notes, status);
     status
 }

@@ -1,6 +1,6 @@
 use Rattle.std.proofs.Common.{◌+◌, ◌-◌, ◌<◌, ◌≤◌, length}
-use Rattle.dlog.specs.Progress.{IsReady, size_of}
-use Rattle.dlog.specs.Answers.{Taking}
+use Rattle.dlog.specs.RunStates.{IsReady, size_of}
+use Rattle.dlog.specs.Answers.{ReadsOn}
 use Rattle.dlog.specs.Run.{schedule_limit}
 use Rattle.dlog.proofs.replay.read_pieces.Given as goal
 
@@ -8,7 +8,7 @@ abbrev pub invariant-loop-count : goal.invariant-loop-count
 invariant-loop-count g l =
     let S = g.S.Source in
     record {
-      taking : Taking (S.left l.fn.source) (S.left l.source) l.fn.run l.run;
+      reads : ReadsOn (S.left l.fn.source) (S.left l.source) l.fn.run l.run;
       ready : IsReady l.run;
       later : S.read_faults l.fn.source ≤ S.read_faults l.source;
       room : 0 < length l.piece;

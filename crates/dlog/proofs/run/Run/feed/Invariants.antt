@@ -1,5 +1,5 @@
 use Rattle.std.proofs.Common.{◌≡◌, ◌+◌, ◌++◌, List, ℕ, length}
-use Rattle.dlog.specs.Progress.{IsReady, ends_as, size_of}
+use Rattle.dlog.specs.RunStates.{IsReady, ends_as, size_of}
 use Rattle.dlog.proofs.run.Run.feed.Given as goal
 
 abbrev pub invariant-loop-line : goal.invariant-loop-line
