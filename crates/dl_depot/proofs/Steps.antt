@@ -5,9 +5,9 @@ use Rattle.std.proofs.lemmas.List.{take-append-le, take_all, reverse-append}
 use Rattle.dl_depot.specs.declared.device_call.DeviceCall.{DeviceCall}
 use Rattle.dl_depot.specs.declared.device_call.DeviceCall.TheVariants.{Write, Cut, Sync}
 use Rattle.dl_depot.specs.declared.device_fault.DeviceFault.{DeviceFault}
-use Rattle.dl_depot.specs.declared.entry.End.{End}
-use Rattle.dl_depot.specs.declared.entry.End.TheVariants.{Passed, StoppedBefore, StoppedAfter}
-use Rattle.dl_depot.specs.declared.entry.Entry.{Entry}
+use Rattle.dl_depot.specs.declared.logged_call.End.{End}
+use Rattle.dl_depot.specs.declared.logged_call.End.TheVariants.{Passed, StoppedBefore, StoppedAfter}
+use Rattle.dl_depot.specs.declared.logged_call.LoggedCall.{LoggedCall}
 use Rattle.dl_depot.specs.declared.fuse.Fuse.{Fuse}
 use Rattle.dl_depot.specs.View.{View, Keeps}
 use Rattle.dl_depot.specs.Device.{Step, Writes, Stops, done, left_by}
@@ -41,7 +41,7 @@ pub this_file : (a b : ℕ) → a ≡ b → (a == b) ≡ true
 this_file a b same = grind (arith, nat_tests)
 
 -- a call that leaves the log
-module _ (log : List Entry) (held now : ℕ → Held) (file : ℕ) (others : (f : ℕ) → f ≢ file → now f ≡ held f) where
+module _ (log : List LoggedCall) (held now : ℕ → Held) (file : ℕ) (others : (f : ℕ) → f ≢ file → now f ≡ held f) where
   stays : (held file).faults ≤ (now file).faults → Keeps file (view_of log held) (view_of log now)
   stays no_fewer = let k = keeps_refl file (view_of log held) in record {
     later = k.later;
@@ -65,7 +65,7 @@ module _ (log : List Entry) (held now : ℕ → Held) (file : ℕ) (others : (f 
     keeps = stays (let same = ap (λ (h : Held). h.faults) here in omega (arith, same));
     images = λ t c from to image. (c, (image_still t c from to).0 image, step_same call c);
     shown = λ was is. tt;
-    failed = let same = ap (λ (h : Held). h.faults) here in omega (arith, same);
+    counts = let same = ap (λ (h : Held). h.faults) here in record { passed = tt; failed = omega (arith, same) };
     told = λ calls are. tt;
     maybe_told = λ calls are. inl (ap (λ (h : Held). Some h.calls) here ∙ are);
     unset = λ none. ap (λ (h : Held). Some h.fuse) here ∙ none;
@@ -73,8 +73,8 @@ module _ (log : List Entry) (held now : ℕ → Held) (file : ℕ) (others : (f 
   }
 
 -- a call that joins the log
-module _ (log : List Entry) (held now : ℕ → Held) (file : ℕ) (others : (f : ℕ) → f ≢ file → now f ≡ held f) (e : Entry) (its : e.file ≡ file) where
-  abbrev past : List Entry
+module _ (log : List LoggedCall) (held now : ℕ → Held) (file : ℕ) (others : (f : ℕ) → f ≢ file → now f ≡ held f) (e : LoggedCall) (its : e.file ≡ file) where
+  abbrev past : List LoggedCall
   past = reverse log
 
   abbrev old : View
@@ -88,34 +88,34 @@ module _ (log : List Entry) (held now : ℕ → Held) (file : ℕ) (others : (f 
 
   -- the calls up to a moment that has been
   up_to : (t : ℕ) → t ≤ length log → reverse (take t (log ++ e ∷ [])) ≡ reverse (take t log)
-  up_to t le = ap (λ (l : List Entry). reverse l) (take-append-le t log (e ∷ []) le)
+  up_to t le = ap (λ (l : List LoggedCall). reverse l) (take-append-le t log (e ∷ []) le)
 
   -- and up to now
   up_to_now : (t : ℕ) → length log < t → reverse (take t (log ++ e ∷ [])) ≡ e ∷ past
-  up_to_now t less = ap (λ (l : List Entry). reverse l) (take_all t (log ++ e ∷ []) (omega (arith, less, length-append log (e ∷ [])))) ∙ newest
+  up_to_now t less = ap (λ (l : List LoggedCall). reverse l) (take_all t (log ++ e ∷ []) (omega (arith, less, length-append log (e ∷ [])))) ∙ newest
 
   was_now : reverse (take (length log) log) ≡ past
-  was_now = ap (λ (l : List Entry). reverse l) (take_all (length log) log (omega arith))
+  was_now = ap (λ (l : List LoggedCall). reverse l) (take_all (length log) log (omega arith))
 
   still : (f t : ℕ) (c : List ℕ) → t ≤ length log → new.image f t c ↔ old.image f t c
-  still f t c le = let same = up_to t le in (subst (λ (l : List Entry). ImageOf f l c) same, subst (λ (l : List Entry). ImageOf f l c) (sym same))
+  still f t c le = let same = up_to t le in (subst (λ (l : List LoggedCall). ImageOf f l c) same, subst (λ (l : List LoggedCall). ImageOf f l c) (sym same))
 
   now_other : (f t : ℕ) (c : List ℕ) → f ≢ file → length log < t → new.image f t c ↔ ImageOf f past c
   now_other f t c other late =
       let same = up_to_now t late in
       let test : (e.file == f) ≡ false = other_file e.file f (λ same_file. other (same_file ∙ its)) in
       let Both : Bool → Type 0 = λ b. Choose b (Left (call_of e.work) e.end (state_of f past).0 (λ x. ImageOf f past x) c) (ImageOf f past c) in
-      (λ image. subst Both test (subst (λ (l : List Entry). ImageOf f l c) same image), λ image. subst (λ (l : List Entry). ImageOf f l c) (sym same) (subst Both (sym test) image))
+      (λ image. subst Both test (subst (λ (l : List LoggedCall). ImageOf f l c) same image), λ image. subst (λ (l : List LoggedCall). ImageOf f l c) (sym same) (subst Both (sym test) image))
 
   pub now_this : (t : ℕ) (c : List ℕ) → length log < t → new.image file t c → Left (call_of e.work) e.end (state_of file past).0 (λ x. ImageOf file past x) c
   now_this t c late image =
       let Both : Bool → Type 0 = λ b. Choose b (Left (call_of e.work) e.end (state_of file past).0 (λ x. ImageOf file past x) c) (ImageOf file past c) in
-      subst Both (this_file e.file file its) (subst (λ (l : List Entry). ImageOf file l c) (up_to_now t late) image)
+      subst Both (this_file e.file file its) (subst (λ (l : List LoggedCall). ImageOf file l c) (up_to_now t late) image)
 
   start : (f t : ℕ) (c : List ℕ) → t ≡ length log → old.image f t c ↔ ImageOf f past c
   start f t c is =
       let same : reverse (take t log) ≡ past = ap (λ (n : ℕ). reverse (take n log)) is ∙ was_now in
-      (subst (λ (l : List Entry). ImageOf f l c) same, subst (λ (l : List Entry). ImageOf f l c) (sym same))
+      (subst (λ (l : List LoggedCall). ImageOf f l c) same, subst (λ (l : List LoggedCall). ImageOf f l c) (sym same))
 
   pub keeps : (held file).faults ≤ (now file).faults → Keeps file old new
   keeps no_fewer = record {
@@ -149,7 +149,7 @@ module _ (log : List Entry) (held now : ℕ → Held) (file : ℕ) (others : (f 
     keeps = keeps (let same = ap (λ (h : Held). h.faults) here in omega (arith, same));
     images = λ t c from to image. let left = images is t c from to image in (left.0, left.1, subst (λ (k : DeviceCall). Step k left.0 c) is_call left.2);
     shown = λ was shown. ap (λ (h : Held). Some h.shown) here ∙ ap (λ (l : List ℕ). Some (done call bytes l)) (some_is _ _ shown);
-    failed = tt;
+    counts = record { passed = ap (λ (h : Held). h.faults) here; failed = tt };
     told = λ calls are. told calls are;
     maybe_told = λ calls are. inr (told calls are);
     unset = λ none. ap (λ (h : Held). Some h.fuse) here ∙ ap (λ (o : Option Fuse). Some (spent o)) (some_is _ _ none);
@@ -174,7 +174,7 @@ module _ (log : List Entry) (held now : ℕ → Held) (file : ℕ) (others : (f 
     keeps = keeps (let same = ap (λ (h : Held). h.faults) here in omega (arith, same));
     images = λ t c from to image. let left = images is t c from to image in (left.0, left.1, subst (λ (k : DeviceCall). Step k left.0 c) is_call left.2);
     shown = λ was shown. tt;
-    failed = let same = ap (λ (h : Held). h.faults) here in omega (arith, same);
+    counts = let same = ap (λ (h : Held). h.faults) here in record { passed = tt; failed = omega (arith, same) };
     told = λ calls are. tt;
     maybe_told = λ calls are. inr (told calls are);
     unset = λ none. absurd (stops (ap (λ (o : Option Fuse). end_of o) (some_is _ _ none)));

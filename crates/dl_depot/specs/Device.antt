@@ -8,9 +8,18 @@ use Rattle.dl_depot.specs.declared.fuse.Outcome.{Outcome}
 use Rattle.dl_depot.specs.declared.fuse.Outcome.TheVariants.{Before, After}
 use Rattle.dl_depot.specs.View.{View, Keeps}
 
--- a count rose, or stands at the greatest u64
+-- a count of faults is a u64: one that stands at the greatest stays there
+abbrev pub last_count : ℕ
+last_count = 2 ^ 64 - 1
+
+-- a count rose, or stands at its last value
 abbrev pub Rose : ℕ → ℕ → Type 0
-Rose before now = min (before + 1) (2 ^ 64 - 1) ≤ now
+Rose before now = min (before + 1) last_count ≤ now
+
+-- a call that fails raises the count of faults, and one that succeeds leaves it
+pub record CountsFault {X : Type 0} (before now : ℕ) (result : Result X DeviceFault) : Type 0 where
+  pub passed : OnOk result (now ≡ before)
+  pub failed : OnErr result (Rose before now)
 
 -- after a write of n bytes that a stop cuts short: any bytes in the range and past the old end, the same elsewhere
 pub record Torn (at n : ℕ) (old new : List ℕ) : Type 0 where
@@ -57,7 +66,7 @@ IsAlive old file result = (f : Fuse) → old.fuse file ≡ Some (Some f) → OnO
 pub record Sized (old new : View) (file : ℕ) (result : Result ℕ DeviceFault) : Type 0 where
   pub looks : Looks old new file
   pub size : (bytes : List ℕ) → old.shown file ≡ Some bytes → IfOk result (λ n. n ≡ length bytes)
-  pub failed : OnErr result (Rose (old.faults file) (new.faults file))
+  pub counts : CountsFault (old.faults file) (new.faults file) result
   pub alive : IsAlive old file result
 
 -- `count` bytes from `at` on stand at the start of the buffer
@@ -70,7 +79,7 @@ pub record Read (old new : View) (file at : ℕ) (into : List ℕ) (result : Res
   pub looks : Looks old new file
   pub at_most : IfOk result (λ n. n ≤ length into)
   pub bytes : (bytes : List ℕ) → old.shown file ≡ Some bytes → IfOk result (λ n. Gives at n bytes into)
-  pub failed : OnErr result (Rose (old.faults file) (new.faults file))
+  pub counts : CountsFault (old.faults file) (new.faults file) result
   pub alive : IsAlive old file result
 
 -- a stop with this outcome leaves all that was written, or the bytes of the last sync
@@ -103,7 +112,7 @@ pub record Writes (old new : View) (file : ℕ) (call : DeviceCall) (bytes : Lis
   pub keeps : Keeps file old new
   pub images : (t : ℕ) (c : List ℕ) → old.moment ≤ t → t ≤ new.moment → new.image file t c → (d : List ℕ) × old.image file old.moment d × Step call d c
   pub shown : (was : List ℕ) → old.shown file ≡ Some was → OnOk result (new.shown file ≡ Some (done call bytes was))
-  pub failed : OnErr result (Rose (old.faults file) (new.faults file))
+  pub counts : CountsFault (old.faults file) (new.faults file) result
   pub told : (calls : List DeviceCall) → old.calls file ≡ Some calls → OnOk result (new.calls file ≡ Some (calls ++ call ∷ []))
   -- a call that fails was made or not
   pub maybe_told : (calls : List DeviceCall) → old.calls file ≡ Some calls → (new.calls file ≡ Some calls) ⊎ (new.calls file ≡ Some (calls ++ call ∷ []))

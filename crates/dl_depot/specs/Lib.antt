@@ -5,3 +5,4 @@ pub mod Held
 pub mod Log
 pub mod Reads
 pub mod Memory
+pub mod Laws

@@ -2,7 +2,7 @@
 use Rattle.std.specs.Prelude.{◌≡◌, ◌≢◌, ◌⊎◌, ◌↔◌, ℕ, List, true, false, Result, Ok, Err, IsErr, MatchResult}
 use Rattle.dl_depot.specs.declared.device_call.DeviceCall.{DeviceCall}
 use Rattle.dl_depot.specs.declared.device_fault.DeviceFault.{DeviceFault}
-use Rattle.dl_depot.specs.declared.entry.End.TheVariants.{Passed}
+use Rattle.dl_depot.specs.declared.logged_call.End.TheVariants.{Passed}
 use Rattle.dl_depot.specs.declared.memory.MemDepot.{MemDepot}
 use Rattle.dl_depot.specs.View.{View}
 use Rattle.dl_depot.specs.Held.{Held, empty_held, refuses, called, faulted, end_of, made}

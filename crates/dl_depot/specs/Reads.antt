@@ -5,11 +5,11 @@ use Rattle.std.proofs.lemmas.Bool.Decides.{nat_tests}
 use Rattle.std.proofs.lemmas.List.{take_at, drop_at, take_all}
 use Rattle.dl_depot.specs.declared.device_call.DeviceCall.{DeviceCall}
 use Rattle.dl_depot.specs.declared.device_call.DeviceCall.TheVariants.{Write, Cut, Sync}
-use Rattle.dl_depot.specs.declared.entry.Work.{Work}
-use Rattle.dl_depot.specs.declared.entry.Work.TheVariants
-use Rattle.dl_depot.specs.declared.entry.End.{End}
-use Rattle.dl_depot.specs.declared.entry.End.TheVariants.{Passed, StoppedBefore, StoppedAfter}
-use Rattle.dl_depot.specs.declared.entry.Entry.{Entry}
+use Rattle.dl_depot.specs.declared.logged_call.Work.{Work}
+use Rattle.dl_depot.specs.declared.logged_call.Work.TheVariants
+use Rattle.dl_depot.specs.declared.logged_call.End.{End}
+use Rattle.dl_depot.specs.declared.logged_call.End.TheVariants.{Passed, StoppedBefore, StoppedAfter}
+use Rattle.dl_depot.specs.declared.logged_call.LoggedCall.{LoggedCall}
 use Rattle.dl_depot.specs.Device.{Torn, Shortened, put, Step}
 use Rattle.dl_depot.specs.Held.{Held, shown_by, synced_by}
 use Rattle.dl_depot.specs.Log.{call_of, bytes_of, after, state_of, Choose, Left, ImageOf, Fits, IsLog, fits, is_log, held_at, view_of, IsKept}
@@ -27,7 +27,7 @@ fits_is (TheVariants.Cut size) shown is = tt
 fits_is TheVariants.Sync shown is = tt
 
 -- and of a log that each write does
-pub log_is : (log : List Entry) → is_log log ≡ true → IsLog log
+pub log_is : (log : List LoggedCall) → is_log log ≡ true → IsLog log
 log_is [] is = tt
 log_is (e ∷ past) is =
     let two = and_parts (fits e.work (state_of e.file past).0) (is_log past) is in
@@ -83,7 +83,7 @@ pub same_file : (a b : ℕ) → (a == b) ≡ true → a ≡ b
 same_file a b test = grind (arith, nat_tests)
 
 -- what a log shows of a file, and what it synced last, are images
-pub state_left : (f : ℕ) (log : List Entry) → IsLog log → ImageOf f log (state_of f log).0 × ImageOf f log (state_of f log).1
+pub state_left : (f : ℕ) (log : List LoggedCall) → IsLog log → ImageOf f log (state_of f log).0 × ImageOf f log (state_of f log).1
 state_left f [] is = (refl, refl)
 state_left f (e ∷ past) is = go (e.file == f) refl (state_left f past is.1)
   where
@@ -94,9 +94,9 @@ state_left f (e ∷ past) is = go (e.file == f) refl (state_left f past is.1)
     go false same before = before
 
 -- the law of the trait
-pub reads_image : (log : List Entry) (files : List Held) → IsKept log files → (f : ℕ) (bytes : List ℕ)
+pub reads_image : (log : List LoggedCall) (files : List Held) → IsKept log files → (f : ℕ) (bytes : List ℕ)
     → (view_of log (λ g. held_at files g)).shown f ≡ Some bytes → (view_of log (λ g. held_at files g)).image f (view_of log (λ g. held_at files g)).moment bytes
 reads_image log files kept f bytes shown =
     let same : (held_at files f).shown ≡ bytes = cc in
-    subst (λ (l : List Entry). ImageOf f l bytes) (sym (ap (λ (l : List Entry). reverse l) (take_all (length log) log (omega arith))))
+    subst (λ (l : List LoggedCall). ImageOf f l bytes) (sym (ap (λ (l : List LoggedCall). reverse l) (take_all (length log) log (omega arith))))
     (subst (λ (c : List ℕ). ImageOf f (reverse log) c) (kept.shown f ∙ same) (state_left f (reverse log) (log_is (reverse log) kept.log_fits)).0)

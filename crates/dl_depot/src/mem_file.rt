@@ -1,13 +1,13 @@
 ghost use Rattle.std.specs.Prelude.{◌≡◌, ◌≤◌, ◌<◌, ◌-◌, ◌++◌, ◌∷◌, [], length, MatchResult, List, ℕ, take};
 ghost use Rattle.dl_depot.specs.declared.device_call.DeviceCall.TheVariants.{Write, Cut, Sync};
-ghost use Rattle.dl_depot.specs.declared.entry.End.TheVariants.{Passed, StoppedBefore, StoppedAfter};
+ghost use Rattle.dl_depot.specs.declared.logged_call.End.TheVariants.{Passed, StoppedBefore, StoppedAfter};
 ghost use Rattle.dl_depot.specs.Device.{put};
 ghost use Rattle.dl_depot.specs.Held.{empty_held, refuses, called, faulted, end_by, end_of, burnt, spent, has_stopped, made, Settles};
 
 use crate::device_call::DeviceCall;
 use crate::device_fault::DeviceFault;
-use crate::entry::End;
 use crate::fuse::{Fuse, Outcome};
+use crate::logged_call::End;
 use std::alloc::{AllocError, Global};
 use std::marker::Model;
 
