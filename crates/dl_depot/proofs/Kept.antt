@@ -12,9 +12,10 @@ use Rattle.dl_depot.specs.declared.logged_call.End.TheVariants.{Passed}
 use Rattle.dl_depot.specs.declared.logged_call.LoggedCall.{LoggedCall}
 use Rattle.dl_depot.specs.declared.logged_call.Work.{Work}
 use Rattle.dl_depot.specs.declared.logged_call.Work.TheVariants
+use Rattle.dl_depot.specs.Files.{file_count}
 use Rattle.dl_depot.specs.Device.{Writes, Wrote, WasCut, Synced}
 use Rattle.dl_depot.specs.Held.{Held, empty_held, end_of, shown_by, synced_by}
-use Rattle.dl_depot.specs.Log.{call_of, bytes_of, after, state_of, Left, fits, is_log, IsLog, held_at, view_of, IsKept, Joined, Works}
+use Rattle.dl_depot.specs.Log.{call_of, bytes_of, state_after, state_of, Left, is_inside, is_log, IsLog, held_at, view_of, IsKept, Joined, Works}
 use Rattle.dl_depot.specs.Reads.{log_is}
 use Rattle.dl_depot.proofs.Fuses.{write_keeps, cut_keeps, stop_keeps}
 use Rattle.dl_depot.proofs.Steps.{this_file, other_file, fails, passed, stopped, now_this}
@@ -79,7 +80,7 @@ FitsCall (Write at n) shown = at ≤ length shown
 FitsCall (Cut size) shown = ⊤
 FitsCall Sync shown = ⊤
 
-fits_call : (w : Work) (shown : List ℕ) → FitsCall (call_of w) shown → fits w shown ≡ true
+fits_call : (w : Work) (shown : List ℕ) → FitsCall (call_of w) shown → is_inside w shown ≡ true
 fits_call (TheVariants.Write at bytes) shown is = grind (arith, nat_tests)
 fits_call (TheVariants.Cut size) shown is = refl
 fits_call TheVariants.Sync shown is = refl
@@ -89,7 +90,7 @@ both_true true b a_is b_is = b_is
 both_true false b a_is b_is = absurd (cc a_is)
 
 -- on one file of many
-module _ (log log_after : List LoggedCall) (files : List Held) (i file : ℕ) (h k : Held) (kept : IsKept log files) (i_is : i ≡ file) (most : i ≤ 33) (there : h ≡ get_or files i h) where
+module _ (log log_after : List LoggedCall) (files : List Held) (i file : ℕ) (h k : Held) (kept : IsKept log files) (i_is : i ≡ file) (most : i < file_count) (there : h ≡ get_or files i h) where
   abbrev held : ℕ → Held
   held f = held_at files f
 
@@ -155,10 +156,10 @@ module _ (log log_after : List LoggedCall) (files : List Held) (i file : ℕ) (h
 
     state_other : (f : ℕ) → f ≢ file → state_of f (reverse (log ++ e ∷ [])) ≡ state_of f past
     state_other f other =
-        ap (λ (l : List LoggedCall). state_of f l) newest ∙ ap (λ (b : Bool). cond b (after e (state_of f past)) (state_of f past)) (other_file e.file f (λ same. other (same ∙ its_file)))
+        ap (λ (l : List LoggedCall). state_of f l) newest ∙ ap (λ (b : Bool). cond b (state_after e (state_of f past)) (state_of f past)) (other_file e.file f (λ same. other (same ∙ its_file)))
 
-    state_this : state_of file (reverse (log ++ e ∷ [])) ≡ after e (state_of file past)
-    state_this = ap (λ (l : List LoggedCall). state_of file l) newest ∙ ap (λ (b : Bool). cond b (after e (state_of file past)) (state_of file past)) (this_file e.file file its_file)
+    state_this : state_of file (reverse (log ++ e ∷ [])) ≡ state_after e (state_of file past)
+    state_this = ap (λ (l : List LoggedCall). state_of file l) newest ∙ ap (λ (b : Bool). cond b (state_after e (state_of file past)) (state_of file past)) (this_file e.file file its_file)
 
     was_shown : (state_of file past).0 ≡ h.shown
     was_shown = kept.shown file ∙ ap (λ (x : Held). x.shown) was_is
@@ -166,7 +167,7 @@ module _ (log log_after : List LoggedCall) (files : List Held) (i file : ℕ) (h
     was_synced : (state_of file past).1 ≡ h.synced
     was_synced = kept.synced file ∙ ap (λ (x : Held). x.synced) was_is
 
-    shows : (after e (state_of file past)).0 ≡ shown_by call bytes end h.shown h.synced
+    shows : (state_after e (state_of file past)).0 ≡ shown_by call bytes end h.shown h.synced
     shows =
         ap (λ (x : DeviceCall). shown_by x (bytes_of e.work) e.end (state_of file past).0 (state_of file past).1) its_call
         ∙ ap (λ (x : List ℕ). shown_by call x e.end (state_of file past).0 (state_of file past).1) its_bytes
@@ -174,7 +175,7 @@ module _ (log log_after : List LoggedCall) (files : List Held) (i file : ℕ) (h
         ∙ ap (λ (x : List ℕ). shown_by call bytes end x (state_of file past).1) was_shown
         ∙ ap (λ (x : List ℕ). shown_by call bytes end h.shown x) was_synced
 
-    syncs : (after e (state_of file past)).1 ≡ synced_by call end h.shown h.synced
+    syncs : (state_after e (state_of file past)).1 ≡ synced_by call end h.shown h.synced
     syncs =
         ap (λ (x : DeviceCall). synced_by x e.end (state_of file past).0 (state_of file past).1) its_call
         ∙ ap (λ (x : End). synced_by call x (state_of file past).0 (state_of file past).1) its_end

@@ -10,8 +10,8 @@ use Rattle.dl_depot.specs.declared.logged_call.End.TheVariants.{Passed, StoppedB
 use Rattle.dl_depot.specs.declared.logged_call.LoggedCall.{LoggedCall}
 use Rattle.dl_depot.specs.declared.fuse.Fuse.{Fuse}
 use Rattle.dl_depot.specs.View.{View, Keeps}
-use Rattle.dl_depot.specs.Device.{Step, Writes, Stops, done, left_by}
-use Rattle.dl_depot.specs.Held.{Held, refuses, called, faulted, end_of, spent, made, shown_by}
+use Rattle.dl_depot.specs.Device.{Step, Writes, Stops, effect_of, left_by}
+use Rattle.dl_depot.specs.Held.{Held, is_refused, after_call, after_fault, end_of, set_fuse_after, after_work, shown_by}
 use Rattle.dl_depot.specs.Log.{call_of, state_of, Choose, Stepped, Left, ImageOf, IsLog, view_of}
 use Rattle.dl_depot.specs.Reads.{step_same, state_left}
 use Rattle.dl_depot.proofs.Moments.{ordered, keeps_refl}
@@ -60,7 +60,7 @@ module _ (log : List LoggedCall) (held now : ℕ → Held) (file : ℕ) (others 
   image_still t c from to = let at : t ≡ length log = omega (arith, from, to) in subst (λ (n : ℕ). (view_of log held).image file n c ↔ (view_of log held).image file (length log) c) (sym at) (λ i. i, λ i. i)
 
   -- a writing call failed before it did anything
-  pub fails : now file ≡ faulted (called (held file)) → (call : DeviceCall) (bytes : List ℕ) (e : DeviceFault) → Writes (view_of log held) (view_of log now) file call bytes (Err e)
+  pub fails : now file ≡ after_fault (after_call (held file)) → (call : DeviceCall) (bytes : List ℕ) (e : DeviceFault) → Writes (view_of log held) (view_of log now) file call bytes (Err e)
   fails here call bytes e = record {
     keeps = stays (let same = ap (λ (h : Held). h.faults) here in omega (arith, same));
     images = λ t c from to image. (c, (image_still t c from to).0 image, step_same call c);
@@ -143,16 +143,16 @@ module _ (log : List LoggedCall) (held now : ℕ → Held) (file : ℕ) (others 
   ]
 
   -- it succeeded
-  pub passed : IsLog past → (call : DeviceCall) (bytes : List ℕ) → call_of e.work ≡ call → refuses (held file) ≡ false → end_of (held file).fuse ≡ Passed → now file ≡ made call bytes Passed (called (held file))
+  pub passed : IsLog past → (call : DeviceCall) (bytes : List ℕ) → call_of e.work ≡ call → is_refused (held file) ≡ false → end_of (held file).fuse ≡ Passed → now file ≡ after_work call bytes Passed (after_call (held file))
       → Writes old new file call bytes (Ok tt)
   passed is call bytes is_call alive passes here = record {
     keeps = keeps (let same = ap (λ (h : Held). h.faults) here in omega (arith, same));
     images = λ t c from to image. let left = images is t c from to image in (left.0, left.1, subst (λ (k : DeviceCall). Step k left.0 c) is_call left.2);
-    shown = λ was shown. ap (λ (h : Held). Some h.shown) here ∙ ap (λ (l : List ℕ). Some (done call bytes l)) (some_is _ _ shown);
+    shown = λ was shown. ap (λ (h : Held). Some h.shown) here ∙ ap (λ (l : List ℕ). Some (effect_of call bytes l)) (some_is _ _ shown);
     counts = record { passed = ap (λ (h : Held). h.faults) here; failed = tt };
     told = λ calls are. told calls are;
     maybe_told = λ calls are. inr (told calls are);
-    unset = λ none. ap (λ (h : Held). Some h.fuse) here ∙ ap (λ (o : Option Fuse). Some (spent o)) (some_is _ _ none);
+    unset = λ none. ap (λ (h : Held). Some h.fuse) here ∙ ap (λ (o : Option Fuse). Some (set_fuse_after o)) (some_is _ _ none);
     burns = λ f set.
         let is_set : (held file).fuse ≡ Some f = some_is _ _ set in
         let lets = lets_pass f (ap (λ (o : Option Fuse). end_of o) (sym is_set) ∙ passes) in
@@ -160,7 +160,7 @@ module _ (log : List LoggedCall) (held now : ℕ → Held) (file : ℕ) (others 
           whole = alive_is (held file) f is_set alive;
           rest = lets.rest;
           one_less = lets.one_less;
-          fuse = ap (λ (h : Held). Some h.fuse) here ∙ ap (λ (o : Option Fuse). Some (spent o)) is_set ∙ ap (λ (g : Fuse). Some (Some g)) lets.burns;
+          fuse = ap (λ (h : Held). Some h.fuse) here ∙ ap (λ (o : Option Fuse). Some (set_fuse_after o)) is_set ∙ ap (λ (g : Fuse). Some (Some g)) lets.burns;
         };
   }
     where
@@ -168,8 +168,8 @@ module _ (log : List LoggedCall) (held now : ℕ → Held) (file : ℕ) (others 
       told calls are = ap (λ (h : Held). Some h.calls) here ∙ ap (λ (l : List DeviceCall). Some (l ++ call ∷ [])) (some_is _ _ are)
 
   -- a fuse stopped it
-  pub stopped : IsLog past → (call : DeviceCall) (bytes : List ℕ) (fault : DeviceFault) → call_of e.work ≡ call → refuses (held file) ≡ false → end_of (held file).fuse ≢ Passed
-      → now file ≡ faulted (made call bytes (end_of (held file).fuse) (called (held file))) → Writes old new file call bytes (Err fault)
+  pub stopped : IsLog past → (call : DeviceCall) (bytes : List ℕ) (fault : DeviceFault) → call_of e.work ≡ call → is_refused (held file) ≡ false → end_of (held file).fuse ≢ Passed
+      → now file ≡ after_fault (after_work call bytes (end_of (held file).fuse) (after_call (held file))) → Writes old new file call bytes (Err fault)
   stopped is call bytes fault is_call alive stops here = record {
     keeps = keeps (let same = ap (λ (h : Held). h.faults) here in omega (arith, same));
     images = λ t c from to image. let left = images is t c from to image in (left.0, left.1, subst (λ (k : DeviceCall). Step k left.0 c) is_call left.2);
@@ -191,12 +191,12 @@ module _ (log : List LoggedCall) (held now : ℕ → Held) (file : ℕ) (others 
           record {
             whole = alive_is (held file) f set alive;
             due = next.due;
-            fuse = ap (λ (h : Held). Some h.fuse) here ∙ ap (λ (o : Option Fuse). Some (spent o)) set ∙ ap (λ (g : Fuse). Some (Some g)) next.burns;
+            fuse = ap (λ (h : Held). Some h.fuse) here ∙ ap (λ (o : Option Fuse). Some (set_fuse_after o)) set ∙ ap (λ (g : Fuse). Some (Some g)) next.burns;
             shown = λ was last shows synced.
                 ap (λ (h : Held). Some h.shown) here
                 ∙ ap (λ (end : End). Some (shown_by call bytes end (held file).shown (held file).synced)) end_is
                 ∙ ap (λ (l : List ℕ). Some l) (stop_shows f.outcome call bytes (held file).shown (held file).synced)
-                ∙ ap (λ (l : List ℕ). Some (left_by f.outcome (done call bytes l) (held file).synced)) (some_is _ _ shows)
-                ∙ ap (λ (l : List ℕ). Some (left_by f.outcome (done call bytes was) l)) (some_is _ _ synced);
+                ∙ ap (λ (l : List ℕ). Some (left_by f.outcome (effect_of call bytes l) (held file).synced)) (some_is _ _ shows)
+                ∙ ap (λ (l : List ℕ). Some (left_by f.outcome (effect_of call bytes was) l)) (some_is _ _ synced);
             told = told;
           }

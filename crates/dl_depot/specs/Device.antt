@@ -38,10 +38,10 @@ abbrev pub put : ℕ → List ℕ → List ℕ → List ℕ
 put at bytes old = take at old ++ (bytes ++ drop (at + length bytes) old)
 
 -- what each call does to the bytes shown
-abbrev pub done : DeviceCall → List ℕ → List ℕ → List ℕ
-done (Write at n) bytes old = put at bytes old
-done (Cut size) bytes old = take size old
-done Sync bytes old = old
+abbrev pub effect_of : DeviceCall → List ℕ → List ℕ → List ℕ
+effect_of (Write at n) bytes old = put at bytes old
+effect_of (Cut size) bytes old = take size old
+effect_of Sync bytes old = old
 
 -- what a stop in each call may make of an image
 abbrev pub Step : DeviceCall → List ℕ → List ℕ → Type 0
@@ -99,7 +99,7 @@ pub record Stops (old new : View) (file : ℕ) (call : DeviceCall) (bytes : List
   pub whole : f.stopped ≡ false
   pub due : f.left ≡ 0
   pub fuse : new.fuse file ≡ Some (Some (record f { stopped = true }))
-  pub shown : (was last : List ℕ) → old.shown file ≡ Some was → old.synced file ≡ Some last → new.shown file ≡ Some (left_by f.outcome (done call bytes was) last)
+  pub shown : (was last : List ℕ) → old.shown file ≡ Some was → old.synced file ≡ Some last → new.shown file ≡ Some (left_by f.outcome (effect_of call bytes was) last)
   pub told : (calls : List DeviceCall) → old.calls file ≡ Some calls → new.calls file ≡ Some (calls ++ call ∷ [])
 
 -- a fuse lets a call pass, stops it, or the call fails before the fuse comes to it
@@ -111,7 +111,7 @@ Burns old new file call bytes f (Err e) = (new.fuse file ≡ Some (Some f)) ⊎ 
 pub record Writes (old new : View) (file : ℕ) (call : DeviceCall) (bytes : List ℕ) (result : Result (Unit {0}) DeviceFault) : Type 0 where
   pub keeps : Keeps file old new
   pub images : (t : ℕ) (c : List ℕ) → old.moment ≤ t → t ≤ new.moment → new.image file t c → (d : List ℕ) × old.image file old.moment d × Step call d c
-  pub shown : (was : List ℕ) → old.shown file ≡ Some was → OnOk result (new.shown file ≡ Some (done call bytes was))
+  pub shown : (was : List ℕ) → old.shown file ≡ Some was → OnOk result (new.shown file ≡ Some (effect_of call bytes was))
   pub counts : CountsFault (old.faults file) (new.faults file) result
   pub told : (calls : List DeviceCall) → old.calls file ≡ Some calls → OnOk result (new.calls file ≡ Some (calls ++ call ∷ []))
   -- a call that fails was made or not

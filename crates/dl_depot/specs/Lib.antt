@@ -1,3 +1,4 @@
+pub mod Files
 pub mod View
 pub mod Device
 pub mod Stops

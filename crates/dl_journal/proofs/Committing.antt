@@ -16,39 +16,39 @@ use Rattle.dl_journal.specs.Calls.{Stores, store_calls}
 use Rattle.dl_journal.specs.Settled.{Settled}
 use Rattle.dl_journal.specs.Commits.{commit_calls, Committed, batch_of, state_after}
 use Rattle.dl_journal.proofs.Room.{HasRoom}
-use Rattle.dl_journal.proofs.Staging.{written, length-written, row-push, some_inj, first_images, first_shows, staged_bytes, staged_shown, staged_last, second_images, second_shows, opened_bytes, opened_is, opened_holds}
+use Rattle.dl_journal.proofs.Staging.{frame_bytes, length-frame_bytes, row-push, some_inj, first_images, first_shows, staged_bytes, staged_shown, staged_last, second_images, second_shows, opened_bytes, opened_is, opened_holds}
 use Rattle.dl_journal.proofs.Standing.{on_told}
 use Rattle.dl_journal.proofs.Through.{rose_on, differ}
 
 -- the writing calls of the frame and of the gate are those of a commit
-frame_calls : (j : JournalState) (body : List ℕ) (calls : List DeviceCall) → Some (calls ++ store_calls (j.gate + 1) (written j body)) ≡ Some (calls ++ take 2 (commit_calls j body))
-frame_calls j body calls = ap (λ (n : ℕ). Some (calls ++ Write (j.gate + 1) n ∷ Sync ∷ [])) (length-written j body)
+frame_calls : (j : JournalState) (body : List ℕ) (calls : List DeviceCall) → Some (calls ++ store_calls (j.gate + 1) (frame_bytes j body)) ≡ Some (calls ++ take 2 (commit_calls j body))
+frame_calls j body calls = ap (λ (n : ℕ). Some (calls ++ Write (j.gate + 1) n ∷ Sync ∷ [])) (length-frame_bytes j body)
 
-gate_calls : (j : JournalState) (body : List ℕ) (n : ℕ) (calls : List DeviceCall) → Some ((calls ++ store_calls (j.gate + 1) (written j body)) ++ take n (store_calls j.gate (1 ∷ []))) ≡ Some (calls ++ take (suc (suc n)) (commit_calls j body))
+gate_calls : (j : JournalState) (body : List ℕ) (n : ℕ) (calls : List DeviceCall) → Some ((calls ++ store_calls (j.gate + 1) (frame_bytes j body)) ++ take n (store_calls j.gate (1 ∷ []))) ≡ Some (calls ++ take (suc (suc n)) (commit_calls j body))
 gate_calls j body n calls =
-    ap (λ (l : List DeviceCall). Some l) (append_assoc calls (store_calls (j.gate + 1) (written j body)) (take n (store_calls j.gate (1 ∷ []))))
-    ∙ ap (λ (k : ℕ). Some (calls ++ Write (j.gate + 1) k ∷ Sync ∷ take n (store_calls j.gate (1 ∷ [])))) (length-written j body)
+    ap (λ (l : List DeviceCall). Some l) (append_assoc calls (store_calls (j.gate + 1) (frame_bytes j body)) (take n (store_calls j.gate (1 ∷ []))))
+    ∙ ap (λ (k : ℕ). Some (calls ++ Write (j.gate + 1) k ∷ Sync ∷ take n (store_calls j.gate (1 ∷ [])))) (length-frame_bytes j body)
 
 -- some first ones of those of the frame
-frame_front : (b : View) (j : JournalState) (body : List ℕ) (n : ℕ) (calls : List DeviceCall) → b.calls j.file ≡ Some (calls ++ take n (store_calls (j.gate + 1) (written j body)))
+frame_front : (b : View) (j : JournalState) (body : List ℕ) (n : ℕ) (calls : List DeviceCall) → b.calls j.file ≡ Some (calls ++ take n (store_calls (j.gate + 1) (frame_bytes j body)))
     → (k : ℕ) × (b.calls j.file ≡ Some (calls ++ take k (commit_calls j body)))
 frame_front b j body zero calls are = (0, are)
-frame_front b j body (suc zero) calls are = (1, are ∙ ap (λ (n : ℕ). Some (calls ++ Write (j.gate + 1) n ∷ [])) (length-written j body))
-frame_front b j body (suc (suc n)) calls are = (2, are ∙ ap (λ (l : List DeviceCall). Some (calls ++ Write (j.gate + 1) (length (written j body)) ∷ Sync ∷ l)) (take_none n) ∙ frame_calls j body calls)
+frame_front b j body (suc zero) calls are = (1, are ∙ ap (λ (n : ℕ). Some (calls ++ Write (j.gate + 1) n ∷ [])) (length-frame_bytes j body))
+frame_front b j body (suc (suc n)) calls are = (2, are ∙ ap (λ (l : List DeviceCall). Some (calls ++ Write (j.gate + 1) (length (frame_bytes j body)) ∷ Sync ∷ l)) (take_none n) ∙ frame_calls j body calls)
   where
     take_none : (n : ℕ) → take n (let none : List DeviceCall = [] in none) ≡ []
     take_none zero = refl
     take_none (suc n) = refl
 
 -- those up to the one that a fuse stopped
-frame_stop : (j : JournalState) (body : List ℕ) (left : ℕ) (calls : List DeviceCall) → left < 2 → Some (calls ++ take (left + 1) (store_calls (j.gate + 1) (written j body))) ≡ Some (calls ++ take (left + 1) (commit_calls j body))
-frame_stop j body zero calls less = ap (λ (n : ℕ). Some (calls ++ Write (j.gate + 1) n ∷ [])) (length-written j body)
+frame_stop : (j : JournalState) (body : List ℕ) (left : ℕ) (calls : List DeviceCall) → left < 2 → Some (calls ++ take (left + 1) (store_calls (j.gate + 1) (frame_bytes j body))) ≡ Some (calls ++ take (left + 1) (commit_calls j body))
+frame_stop j body zero calls less = ap (λ (n : ℕ). Some (calls ++ Write (j.gate + 1) n ∷ [])) (length-frame_bytes j body)
 frame_stop j body (suc zero) calls less = frame_calls j body calls
 frame_stop j body (suc (suc left)) calls less = absurd (omega (arith, less))
 
 -- the frame failed
 pub commit_first : (a b : View) (j : JournalState) (body : List ℕ) (e : DeviceFault) → j.failed ≡ false → HasRoom j (length body)
-    → Stores a b j.file (j.gate + 1) (written j body) (Err e) → Committed a b j (record j { failed = true }) body (Err Device)
+    → Stores a b j.file (j.gate + 1) (frame_bytes j body) (Err e) → Committed a b j (record j { failed = true }) body (Err Device)
 commit_first a b j body e works room w = record {
   keeps = w.keeps;
   any_moment = λ bytes batches s t c from to image. inl (first_images a b j body bytes batches room s (Err e) w t c from to image);
@@ -81,7 +81,7 @@ commit_first a b j body e works room w = record {
 
 -- the gate failed behind it
 pub commit_second : (a m b : View) (j : JournalState) (body : List ℕ) (v : Unit {0}) (e : DeviceFault) → j.failed ≡ false → HasRoom j (length body)
-    → Stores a m j.file (j.gate + 1) (written j body) (Ok v) → Stores m b j.file j.gate (1 ∷ []) (Err e) → Committed a b j (record j { failed = true }) body (Err Device)
+    → Stores a m j.file (j.gate + 1) (frame_bytes j body) (Ok v) → Stores m b j.file j.gate (1 ∷ []) (Err e) → Committed a b j (record j { failed = true }) body (Err Device)
 commit_second a m b j body v e works room w x = record {
   keeps = keeps_trans j.file a m b w.keeps x.keeps;
   any_moment = λ bytes batches s. goes_on j.file a m b (BeforeOrAfter batches (batch_of j body))
@@ -121,7 +121,7 @@ commit_second a m b j body v e works room w x = record {
 
 -- both are done
 pub commit_done : (a m b : View) (j : JournalState) (body : List ℕ) (v u : Unit {0}) → j.failed ≡ false → HasRoom j (length body)
-    → Stores a m j.file (j.gate + 1) (written j body) (Ok v) → Stores m b j.file j.gate (1 ∷ []) (Ok u) → Committed a b j (state_after j body) body (Ok tt)
+    → Stores a m j.file (j.gate + 1) (frame_bytes j body) (Ok v) → Stores m b j.file j.gate (1 ∷ []) (Ok u) → Committed a b j (state_after j body) body (Ok tt)
 commit_done a m b j body v u works room w x = record {
   keeps = keeps;
   any_moment = λ bytes batches s. goes_on j.file a m b (BeforeOrAfter batches (batch_of j body))

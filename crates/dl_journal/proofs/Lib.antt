@@ -8,3 +8,4 @@ pub mod Framing
 pub mod Parsing
 pub mod WholeFile
 pub mod OneWay
+pub mod InPlace

@@ -33,7 +33,7 @@ size_is n body rest short =
     ∙ ap (λ (l : List ℕ). from_be_bytes w32 l) (take_at (to_be_bytes w32 (length body)) (body ++ rest) 4 (length-size (length body)))
     ∙ from_be_bytes-to_be_bytes_4 (length body) short
 
-body_is : (n : ℕ) (body rest : List ℕ) → take (length body) (drop 12 (frame_of n body ++ rest)) ≡ body
+pub body_is : (n : ℕ) (body rest : List ℕ) → take (length body) (drop 12 (frame_of n body ++ rest)) ≡ body
 unfolding frame_of
 body_is n body rest =
     ap (λ (l : List ℕ). take (length body) (drop 12 (l ++ rest))) (sym (append_assoc (to_be_bytes w64 n) (to_be_bytes w32 (length body)) body))

@@ -1,5 +1,5 @@
 -- What a journal stands for, after work on its file and beside it.
-use Rattle.std.proofs.Common.{◌≡◌, ◌≢◌, ℕ, List, [], Option, Some, None, Result, Ok, Err, sym, ◌∙◌, ap, subst, refl, arith, is_some}
+use Rattle.std.proofs.Common.{◌≡◌, ◌≢◌, ℕ, List, [], Option, Some, None, Result, Ok, sym, ◌∙◌, ap, subst, refl, arith, is_some}
 use Rattle.dl_depot.specs.declared.device_fault.DeviceFault.{DeviceFault}
 use Rattle.dl_depot.specs.View.{View, Keeps, KeepsBut}
 use Rattle.dl_depot.specs.Device.{Torn, put}
@@ -8,7 +8,7 @@ use Rattle.dl_journal.specs.declared.batch.Batch.{Batch}
 use Rattle.dl_journal.specs.State.{JournalState}
 use Rattle.dl_journal.specs.Calls.{Stores, StaysInLimit}
 use Rattle.dl_journal.specs.Settled.{Settled}
-use Rattle.dl_journal.specs.Commits.{IsEmpty, Made, start, fresh}
+use Rattle.dl_journal.specs.Commits.{IsEmpty, Made, start, new_journal}
 use Rattle.dl_journal.specs.Laws.{StandsOn, LeavesStanding}
 
 same_bytes : (x y : List ℕ) → Some x ≡ Some y → x ≡ y
@@ -70,7 +70,7 @@ start_fits a b file result w fit t c from to image =
     omega (arith, torn.no_longer, fit left.0 left.1)
 
 -- a new journal
-pub made : (a b : View) (file : ℕ) (v : Unit {0}) → IsEmpty a file → Stores a b file 0 start (Ok v) → Made a b file (Ok (fresh file))
+pub made : (a b : View) (file : ℕ) (v : Unit {0}) → IsEmpty a file → Stores a b file 0 start (Ok v) → Made a b file (Ok (new_journal file))
 made a b file v empty w = record {
   keeps = w.keeps;
   in_limit = start_fits a b file (Ok v) w;
@@ -82,7 +82,7 @@ made a b file v empty w = record {
   calls = record { told = w.calls.told; fronts = w.calls.fronts; unset = w.calls.unset };
 }
   where
-    settled : (was : List ℕ) → a.shown file ≡ Some was → Settled b (fresh file) start []
+    settled : (was : List ℕ) → a.shown file ≡ Some was → Settled b (new_journal file) start []
     settled was is =
         let shown : b.shown file ≡ Some start = w.shown was is ∙ ap (λ (l : List ℕ). Some (put 0 start l)) (empty was is) in
         record {
@@ -92,6 +92,6 @@ made a b file v empty w = record {
           spells = record { gate = 0; shut = omega arith; free = []; spelled = refl };
         }
 
-    go : (o : Option (List ℕ)) → a.shown file ≡ o → (shown : List ℕ) → b.shown file ≡ Some shown → (batches : List Batch) × Settled b (fresh file) shown batches
+    go : (o : Option (List ℕ)) → a.shown file ≡ o → (shown : List ℕ) → b.shown file ≡ Some shown → (batches : List Batch) × Settled b (new_journal file) shown batches
     go None was shown is = let told = w.keeps.told file in absurd (cc (ap is_some is, told, ap is_some was))
-    go (Some bytes) was shown is = let s = settled bytes was in ([], subst (λ (l : List ℕ). Settled b (fresh file) l []) (same_bytes _ _ (sym s.on_disk.shown ∙ is)) s)
+    go (Some bytes) was shown is = let s = settled bytes was in ([], subst (λ (l : List ℕ). Settled b (new_journal file) l []) (same_bytes _ _ (sym s.on_disk.shown ∙ is)) s)

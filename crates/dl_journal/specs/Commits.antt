@@ -46,9 +46,9 @@ abbrev pub Shows : View → ℕ → List Batch → Type 0
 Shows new file batches = (bytes : List ℕ) → new.shown file ≡ Some bytes → IsJournal bytes batches
 
 -- a stop of the third or fourth call with all written has left an open gate
-abbrev pub opens : Outcome → ℕ → Bool
-opens After (suc (suc left)) = true
-opens outcome left = false
+abbrev pub is_gate_open : Outcome → ℕ → Bool
+is_gate_open After (suc (suc left)) = true
+is_gate_open outcome left = false
 
 -- only a fault of the device raises the count of faults
 abbrev pub CountsCommit : ℕ → ℕ → Result (Unit {0}) CommitFault → Type 0
@@ -73,7 +73,7 @@ pub record Committed (old new : View) (j k : JournalState) (body : List ℕ) (re
   pub calls : MakesCalls old new j.file (commit_calls j body) result
   -- where a fuse stops it, the file shows the new batch exactly where its gate was written
   pub spends : (f : Fuse) (bytes : List ℕ) (batches : List Batch) → old.fuse j.file ≡ Some (Some f) → Settled old j bytes batches
-      → Spends old new j.file (commit_calls j body) (λ outcome left. Shows new j.file (cond (opens outcome left) (batches ++ batch_of j body ∷ []) batches)) f result
+      → Spends old new j.file (commit_calls j body) (λ outcome left. Shows new j.file (cond (is_gate_open outcome left) (batches ++ batch_of j body ∷ []) batches)) f result
 
 -- the file is empty, where its bytes are told
 abbrev pub IsEmpty : View → ℕ → Type 0
@@ -84,16 +84,16 @@ abbrev pub start : List ℕ
 start = magic ++ 0 ∷ []
 
 -- a new journal in this file
-abbrev pub fresh : ℕ → JournalState
-fresh file = record { file = file; gate = length magic; next = 0; failed = false }
+abbrev pub new_journal : ℕ → JournalState
+new_journal file = record { file = file; gate = length magic; next = 0; failed = false }
 
 -- what `make` does
 pub record Made (old new : View) (file : ℕ) (result : Result JournalState DeviceFault) : Type 0 where
   pub keeps : Keeps file old new
   pub in_limit : StaysInLimit file old new
-  pub state : IfOk result (λ j. j ≡ fresh file)
-  pub settled : (was : List ℕ) → old.shown file ≡ Some was → OnOk result (Settled new (fresh file) start [])
-  pub stands : OnOk result (Stands new (fresh file))
+  pub state : IfOk result (λ j. j ≡ new_journal file)
+  pub settled : (was : List ℕ) → old.shown file ≡ Some was → OnOk result (Settled new (new_journal file) start [])
+  pub stands : OnOk result (Stands new (new_journal file))
   pub in_row : OnOk result (InRow (length magic) 0 [])
   pub counts : CountsFault (old.faults file) (new.faults file) result
   pub calls : MakesCalls old new file (store_calls 0 start) result

@@ -1,6 +1,6 @@
 //! What holds of every journal, on any depot: laws on the definitions, with no code.
 
-ghost use Rattle.dl_journal.specs.Laws.{OneList, NotBoth, OnePlace, LeavesStanding};
+ghost use Rattle.dl_journal.specs.Laws.{OneList, NotBoth, OnePlace, BodyInPlace, LeavesStanding};
 
 use dl_depot::depot::Depot;
 
@@ -11,6 +11,11 @@ pub fn journals_have_one_reading()
     ensures one_list { OneList }
     ensures not_both { NotBoth }
     ensures one_place { OnePlace }
+{}
+
+/// The body of a commit stands in the file where `body_place` told it to begin, for as long as its batch is in force.
+pub fn bodies_are_in_place()
+    ensures { BodyInPlace }
 {}
 
 /// A journal is left as it stands by work on other files, and by a fuse that is set on a file or taken away.

@@ -4,10 +4,11 @@ ghost use Rattle.dl_journal.specs.Batches.{magic};
 ghost use Rattle.dl_journal.specs.Reading.{number_of, size_of, is_due, ReadsBatch};
 ghost use Rattle.dl_journal.specs.Parsed.{Parses};
 
-use crate::batch::{Batch, Body};
+use crate::batch::Batch;
 use crate::layout::{AROUND, GATE, HEAD, LAST_NUMBER, MAGIC, NUMBER, START};
 use crate::load_fault::LoadFault;
 use byteorder::{BigEndian, ByteOrder};
+use dl_types::body::Body;
 use std::alloc::Global;
 
 /// What a journal's bytes hold: the batches in force, the place of the shut gate, and the number of the next batch.
@@ -71,11 +72,8 @@ fn read_batch(alloc: Global, more: &[u8], at: u64, due: Option<u64>) -> Result<B
     if more.len() - HEAD < size {
         return Err(LoadFault::Damaged(at + NUMBER as u64));
     }
-    let body = Vec::from_slice(alloc, &more[HEAD..HEAD + size])?;
-    Ok(Batch {
-        number,
-        body: Body::from_vec(body),
-    })
+    let body = Body::new(alloc, &more[HEAD..HEAD + size])?;
+    Ok(Batch { number, body })
 }
 
 /// Reads the bytes of a journal. `Damaged` comes exactly where they break the layout, with the place of the first part

@@ -26,6 +26,7 @@ fn a_commit_makes_four_calls(rt: HostRuntime) -> Result<(), Fail> {
     let mut depot = MemDepot::new(rt.alloc())?;
     let mut journal = Journal::make(&mut depot, file)?;
     let mut frame = ABC;
+    assert_eq!(rt; journal.body_place(), 21);
     journal.commit(&mut depot, &mut frame)?;
     let calls = [
         DeviceCall::Write { at: 0, length: 9 },
