@@ -3,16 +3,16 @@ use Rattle.std.proofs.Common.{◌≡◌, ◌≢◌, ◌+◌, ◌-◌, ℕ, List,
 use Rattle.std.proofs.lemmas.Bool.Decides.{nat_tests}
 use Rattle.dl_depot.specs.declared.device_call.DeviceCall.{DeviceCall}
 use Rattle.dl_depot.specs.declared.device_call.DeviceCall.TheVariants.{Write, Cut}
-use Rattle.dl_depot.specs.declared.entry.End.{End}
-use Rattle.dl_depot.specs.declared.entry.End.TheVariants.{Passed, StoppedBefore, StoppedAfter}
+use Rattle.dl_depot.specs.declared.logged_call.End.{End}
+use Rattle.dl_depot.specs.declared.logged_call.End.TheVariants.{Passed, StoppedBefore, StoppedAfter}
 use Rattle.dl_depot.specs.declared.fuse.Fuse.{Fuse}
 use Rattle.dl_depot.specs.declared.fuse.Outcome.{Outcome}
 use Rattle.dl_depot.specs.declared.fuse.Outcome.TheVariants.{Before, After}
-use Rattle.dl_depot.specs.Device.{done, left_by}
-use Rattle.dl_depot.specs.Held.{Held, has_stopped, refuses, stop_of, end_by, burnt, shown_by, synced_by}
+use Rattle.dl_depot.specs.Device.{effect_of, left_by}
+use Rattle.dl_depot.specs.Held.{Held, has_stopped, is_refused, stop_of, end_by, fuse_after, shown_by, synced_by}
 
 -- a call that is not refused is made under a fuse that has stopped none
-pub alive_is : (h : Held) (f : Fuse) → h.fuse ≡ Some f → refuses h ≡ false → f.stopped ≡ false
+pub alive_is : (h : Held) (f : Fuse) → h.fuse ≡ Some f → is_refused h ≡ false → f.stopped ≡ false
 alive_is h f set alive = go (h.due == 1) (has_stopped h.fuse) alive (ap (λ (o : Option Fuse). has_stopped o) set)
   where
     go : (a b : Bool) → (a || b) ≡ false → b ≡ f.stopped → f.stopped ≡ false
@@ -27,7 +27,7 @@ not_passed After is = absurd (cc is)
 pub record LetsPass (f : Fuse) : Type 0 where
   pub rest : ℕ
   pub one_less : f.left ≡ rest + 1
-  pub burns : burnt f ≡ record f { left = rest }
+  pub burns : fuse_after f ≡ record f { left = rest }
 
 pub lets_pass : (f : Fuse) → end_by f ≡ Passed → LetsPass f
 lets_pass f passed = go (f.left == 0) refl passed
@@ -44,7 +44,7 @@ lets_pass f passed = go (f.left == 0) refl passed
 pub record StopsNext (f : Fuse) : Type 0 where
   pub due : f.left ≡ 0
   pub end_is : end_by f ≡ stop_of f.outcome
-  pub burns : burnt f ≡ record f { stopped = true }
+  pub burns : fuse_after f ≡ record f { stopped = true }
 
 pub stops_next : (f : Fuse) → end_by f ≢ Passed → StopsNext f
 stops_next f stops = go (f.left == 0) refl
@@ -58,7 +58,7 @@ stops_next f stops = go (f.left == 0) refl
     go false is = absurd (stops (ap (λ (b : Bool). cond b (stop_of f.outcome) Passed) is))
 
 -- what is left shown where it stopped the call
-pub stop_shows : (o : Outcome) (call : DeviceCall) (bytes was last : List ℕ) → shown_by call bytes (stop_of o) was last ≡ left_by o (done call bytes was) last
+pub stop_shows : (o : Outcome) (call : DeviceCall) (bytes was last : List ℕ) → shown_by call bytes (stop_of o) was last ≡ left_by o (effect_of call bytes was) last
 stop_shows Before call bytes was last = refl
 stop_shows After call bytes was last = refl
 

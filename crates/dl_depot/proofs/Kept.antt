@@ -7,32 +7,33 @@ use Rattle.std.proofs.lemmas.List.{length-set, reverse-append, get_or-set_same, 
 use Rattle.dl_depot.specs.declared.device_call.DeviceCall.{DeviceCall}
 use Rattle.dl_depot.specs.declared.device_call.DeviceCall.TheVariants.{Write, Cut, Sync}
 use Rattle.dl_depot.specs.declared.device_fault.DeviceFault.{DeviceFault}
-use Rattle.dl_depot.specs.declared.entry.End.{End}
-use Rattle.dl_depot.specs.declared.entry.End.TheVariants.{Passed}
-use Rattle.dl_depot.specs.declared.entry.Entry.{Entry}
-use Rattle.dl_depot.specs.declared.entry.Work.{Work}
-use Rattle.dl_depot.specs.declared.entry.Work.TheVariants
+use Rattle.dl_depot.specs.declared.logged_call.End.{End}
+use Rattle.dl_depot.specs.declared.logged_call.End.TheVariants.{Passed}
+use Rattle.dl_depot.specs.declared.logged_call.LoggedCall.{LoggedCall}
+use Rattle.dl_depot.specs.declared.logged_call.Work.{Work}
+use Rattle.dl_depot.specs.declared.logged_call.Work.TheVariants
+use Rattle.dl_depot.specs.Files.{file_count}
 use Rattle.dl_depot.specs.Device.{Writes, Wrote, WasCut, Synced}
 use Rattle.dl_depot.specs.Held.{Held, empty_held, end_of, shown_by, synced_by}
-use Rattle.dl_depot.specs.Log.{call_of, bytes_of, after, state_of, Left, fits, is_log, IsLog, held_at, view_of, IsKept, Joined, Works}
+use Rattle.dl_depot.specs.Log.{call_of, bytes_of, state_after, state_of, Left, is_inside, is_log, IsLog, held_at, view_of, IsKept, Joined, Works}
 use Rattle.dl_depot.specs.Reads.{log_is}
 use Rattle.dl_depot.proofs.Fuses.{write_keeps, cut_keeps, stop_keeps}
 use Rattle.dl_depot.proofs.Steps.{this_file, other_file, fails, passed, stopped, now_this}
 
 -- a writing call meets the rules of every depot
-works_is : (log log_after : List Entry) (held now : ℕ → Held) (file : ℕ) → ((f : ℕ) → f ≢ file → now f ≡ held f) → IsLog (reverse log) → (call : DeviceCall) (bytes : List ℕ) (result : Result (Unit {0}) DeviceFault)
+works_is : (log log_after : List LoggedCall) (held now : ℕ → Held) (file : ℕ) → ((f : ℕ) → f ≢ file → now f ≡ held f) → IsLog (reverse log) → (call : DeviceCall) (bytes : List ℕ) (result : Result (Unit {0}) DeviceFault)
     → Works file call bytes log log_after (held file) (now file) result → Writes (view_of log held) (view_of log_after now) file call bytes result
 works_is log log_after held now file others is call bytes (Ok tt) s =
-    subst (λ (l : List Entry). Writes (view_of log held) (view_of l now) file call bytes (Ok tt)) (sym s.joined.pushed)
-    (passed log held now file others s.joined.entry s.joined.its_file is call bytes s.joined.its_call s.alive s.passes s.here)
+    subst (λ (l : List LoggedCall). Writes (view_of log held) (view_of l now) file call bytes (Ok tt)) (sym s.joined.pushed)
+    (passed log held now file others s.joined.logged s.joined.its_file is call bytes s.joined.its_call s.alive s.passes s.here)
 works_is log log_after held now file others is call bytes (Err e) (inl r) =
-    subst (λ (l : List Entry). Writes (view_of log held) (view_of l now) file call bytes (Err e)) (sym r.same) (fails log held now file others r.here call bytes e)
+    subst (λ (l : List LoggedCall). Writes (view_of log held) (view_of l now) file call bytes (Err e)) (sym r.same) (fails log held now file others r.here call bytes e)
 works_is log log_after held now file others is call bytes (Err e) (inr s) =
-    subst (λ (l : List Entry). Writes (view_of log held) (view_of l now) file call bytes (Err e)) (sym s.joined.pushed)
-    (stopped log held now file others s.joined.entry s.joined.its_file is call bytes e s.joined.its_call s.alive s.stops s.here)
+    subst (λ (l : List LoggedCall). Writes (view_of log held) (view_of l now) file call bytes (Err e)) (sym s.joined.pushed)
+    (stopped log held now file others s.joined.logged s.joined.its_file is call bytes e s.joined.its_call s.alive s.stops s.here)
 
 -- what every call but a sync that passed keeps
-last_is : (log log_after : List Entry) (file : ℕ) (h k : Held) (call : DeviceCall) (bytes : List ℕ) (result : Result (Unit {0}) DeviceFault) → ((end : End) (was last : List ℕ) → synced_by call end was last ≡ last)
+last_is : (log log_after : List LoggedCall) (file : ℕ) (h k : Held) (call : DeviceCall) (bytes : List ℕ) (result : Result (Unit {0}) DeviceFault) → ((end : End) (was last : List ℕ) → synced_by call end was last ≡ last)
     → Works file call bytes log log_after h k result → k.synced ≡ h.synced
 last_is log log_after file h k call bytes (Ok tt) same s = ap (λ (x : Held). x.synced) s.here ∙ same Passed h.shown h.synced
 last_is log log_after file h k call bytes (Err e) same (inl r) = ap (λ (x : Held). x.synced) r.here
@@ -45,13 +46,13 @@ left_sync call end shown c Old is_sync is_passed left =
     let passes : Left Sync Passed shown Old c = subst (λ (x : End). Left Sync x shown Old c) is_passed synced in
     passes
 
-synced_is : (log log_after : List Entry) (held now : ℕ → Held) (file : ℕ) → ((f : ℕ) → f ≢ file → now f ≡ held f) → IsLog (reverse log) → (state_of file (reverse log)).0 ≡ (held file).shown → (result : Result (Unit {0}) DeviceFault)
+synced_is : (log log_after : List LoggedCall) (held now : ℕ → Held) (file : ℕ) → ((f : ℕ) → f ≢ file → now f ≡ held f) → IsLog (reverse log) → (state_of file (reverse log)).0 ≡ (held file).shown → (result : Result (Unit {0}) DeviceFault)
     → Works file Sync [] log log_after (held file) (now file) result → Synced (view_of log held) (view_of log_after now) file result
 synced_is log log_after held now file others is state (Ok tt) s =
-    let e = s.joined.entry in
+    let e = s.joined.logged in
     let shows : (now file).shown ≡ (held file).shown = ap (λ (h : Held). h.shown) s.here in
     let syncs : (now file).synced ≡ (held file).shown = ap (λ (h : Held). h.synced) s.here in
-    let Only : List Entry → Type 0 = λ l. (c : List ℕ) → (view_of l now).image file (view_of l now).moment c → (view_of l now).shown file ≡ Some c in
+    let Only : List LoggedCall → Type 0 = λ l. (c : List ℕ) → (view_of l now).image file (view_of l now).moment c → (view_of l now).shown file ≡ Some c in
     record {
       writes = works_is log log_after held now file others is Sync [] (Ok tt) s;
       only = subst Only (sym s.joined.pushed) (λ c image.
@@ -79,7 +80,7 @@ FitsCall (Write at n) shown = at ≤ length shown
 FitsCall (Cut size) shown = ⊤
 FitsCall Sync shown = ⊤
 
-fits_call : (w : Work) (shown : List ℕ) → FitsCall (call_of w) shown → fits w shown ≡ true
+fits_call : (w : Work) (shown : List ℕ) → FitsCall (call_of w) shown → is_inside w shown ≡ true
 fits_call (TheVariants.Write at bytes) shown is = grind (arith, nat_tests)
 fits_call (TheVariants.Cut size) shown is = refl
 fits_call TheVariants.Sync shown is = refl
@@ -89,7 +90,7 @@ both_true true b a_is b_is = b_is
 both_true false b a_is b_is = absurd (cc a_is)
 
 -- on one file of many
-module _ (log log_after : List Entry) (files : List Held) (i file : ℕ) (h k : Held) (kept : IsKept log files) (i_is : i ≡ file) (most : i ≤ 33) (there : h ≡ get_or files i h) where
+module _ (log log_after : List LoggedCall) (files : List Held) (i file : ℕ) (h k : Held) (kept : IsKept log files) (i_is : i ≡ file) (most : i < file_count) (there : h ≡ get_or files i h) where
   abbrev held : ℕ → Held
   held f = held_at files f
 
@@ -132,7 +133,7 @@ module _ (log log_after : List Entry) (files : List Held) (i file : ℕ) (h k : 
 
   -- the log tells what the files hold: nothing has changed but what it doesn't tell
   kept_same : log_after ≡ log → k.shown ≡ h.shown → k.synced ≡ h.synced → IsKept log_after (set files i k)
-  kept_same same shown synced = subst (λ (l : List Entry). IsKept l (set files i k)) (sym same) (record {
+  kept_same same shown synced = subst (λ (l : List LoggedCall). IsKept l (set files i k)) (sym same) (record {
     log_fits = kept.log_fits;
     count = length-set files i k ∙ kept.count;
     shown = λ f. elim (cases_eq f file) [
@@ -146,8 +147,8 @@ module _ (log log_after : List Entry) (files : List Held) (i file : ℕ) (h k : 
   })
 
   -- a call that joined the log
-  module _ (call : DeviceCall) (bytes : List ℕ) (end : End) (e : Entry) (its_file : e.file ≡ file) (its_call : call_of e.work ≡ call) (its_bytes : bytes_of e.work ≡ bytes) (its_end : e.end ≡ end) where
-    abbrev past : List Entry
+  module _ (call : DeviceCall) (bytes : List ℕ) (end : End) (e : LoggedCall) (its_file : e.file ≡ file) (its_call : call_of e.work ≡ call) (its_bytes : bytes_of e.work ≡ bytes) (its_end : e.end ≡ end) where
+    abbrev past : List LoggedCall
     past = reverse log
 
     newest : reverse (log ++ e ∷ []) ≡ e ∷ past
@@ -155,10 +156,10 @@ module _ (log log_after : List Entry) (files : List Held) (i file : ℕ) (h k : 
 
     state_other : (f : ℕ) → f ≢ file → state_of f (reverse (log ++ e ∷ [])) ≡ state_of f past
     state_other f other =
-        ap (λ (l : List Entry). state_of f l) newest ∙ ap (λ (b : Bool). cond b (after e (state_of f past)) (state_of f past)) (other_file e.file f (λ same. other (same ∙ its_file)))
+        ap (λ (l : List LoggedCall). state_of f l) newest ∙ ap (λ (b : Bool). cond b (state_after e (state_of f past)) (state_of f past)) (other_file e.file f (λ same. other (same ∙ its_file)))
 
-    state_this : state_of file (reverse (log ++ e ∷ [])) ≡ after e (state_of file past)
-    state_this = ap (λ (l : List Entry). state_of file l) newest ∙ ap (λ (b : Bool). cond b (after e (state_of file past)) (state_of file past)) (this_file e.file file its_file)
+    state_this : state_of file (reverse (log ++ e ∷ [])) ≡ state_after e (state_of file past)
+    state_this = ap (λ (l : List LoggedCall). state_of file l) newest ∙ ap (λ (b : Bool). cond b (state_after e (state_of file past)) (state_of file past)) (this_file e.file file its_file)
 
     was_shown : (state_of file past).0 ≡ h.shown
     was_shown = kept.shown file ∙ ap (λ (x : Held). x.shown) was_is
@@ -166,7 +167,7 @@ module _ (log log_after : List Entry) (files : List Held) (i file : ℕ) (h k : 
     was_synced : (state_of file past).1 ≡ h.synced
     was_synced = kept.synced file ∙ ap (λ (x : Held). x.synced) was_is
 
-    shows : (after e (state_of file past)).0 ≡ shown_by call bytes end h.shown h.synced
+    shows : (state_after e (state_of file past)).0 ≡ shown_by call bytes end h.shown h.synced
     shows =
         ap (λ (x : DeviceCall). shown_by x (bytes_of e.work) e.end (state_of file past).0 (state_of file past).1) its_call
         ∙ ap (λ (x : List ℕ). shown_by call x e.end (state_of file past).0 (state_of file past).1) its_bytes
@@ -174,7 +175,7 @@ module _ (log log_after : List Entry) (files : List Held) (i file : ℕ) (h k : 
         ∙ ap (λ (x : List ℕ). shown_by call bytes end x (state_of file past).1) was_shown
         ∙ ap (λ (x : List ℕ). shown_by call bytes end h.shown x) was_synced
 
-    syncs : (after e (state_of file past)).1 ≡ synced_by call end h.shown h.synced
+    syncs : (state_after e (state_of file past)).1 ≡ synced_by call end h.shown h.synced
     syncs =
         ap (λ (x : DeviceCall). synced_by x e.end (state_of file past).0 (state_of file past).1) its_call
         ∙ ap (λ (x : End). synced_by call x (state_of file past).0 (state_of file past).1) its_end
@@ -183,7 +184,7 @@ module _ (log log_after : List Entry) (files : List Held) (i file : ℕ) (h k : 
 
     kept_push : FitsCall call h.shown → k.shown ≡ shown_by call bytes end h.shown h.synced → k.synced ≡ synced_by call end h.shown h.synced → IsKept (log ++ e ∷ []) (set files i k)
     kept_push fit shown synced = record {
-      log_fits = ap (λ (l : List Entry). is_log l) newest ∙ both_true _ _ (fits_call e.work (state_of e.file past).0 fit_entry) kept.log_fits;
+      log_fits = ap (λ (l : List LoggedCall). is_log l) newest ∙ both_true _ _ (fits_call e.work (state_of e.file past).0 fit_logged) kept.log_fits;
       count = length-set files i k ∙ kept.count;
       shown = λ f. elim (cases_eq f file) [
         | inl here ↦ subst (λ (n : ℕ). (state_of n (reverse (log ++ e ∷ []))).0 ≡ (now n).shown) (sym here) (ap (λ (s : List ℕ × List ℕ). s.0) state_this ∙ shows ∙ sym shown ∙ sym (ap (λ (x : Held). x.shown) now_is))
@@ -195,13 +196,13 @@ module _ (log log_after : List Entry) (files : List Held) (i file : ℕ) (h k : 
       ];
     }
       where
-        fit_entry : FitsCall (call_of e.work) (state_of e.file past).0
-        fit_entry = subst (λ (n : ℕ). FitsCall (call_of e.work) (state_of n past).0) (sym its_file) (subst (λ (l : List ℕ). FitsCall (call_of e.work) l) (sym was_shown) (subst (λ (x : DeviceCall). FitsCall x h.shown) (sym its_call) fit))
+        fit_logged : FitsCall (call_of e.work) (state_of e.file past).0
+        fit_logged = subst (λ (n : ℕ). FitsCall (call_of e.work) (state_of n past).0) (sym its_file) (subst (λ (l : List ℕ). FitsCall (call_of e.work) l) (sym was_shown) (subst (λ (x : DeviceCall). FitsCall x h.shown) (sym its_call) fit))
 
   joined : (call : DeviceCall) (bytes : List ℕ) (end : End) → FitsCall call h.shown → Joined file call bytes end log log_after → k.shown ≡ shown_by call bytes end h.shown h.synced → k.synced ≡ synced_by call end h.shown h.synced
       → IsKept log_after (set files i k)
   joined call bytes end fit j shown synced =
-      subst (λ (l : List Entry). IsKept l (set files i k)) (sym j.pushed) (kept_push call bytes end j.entry j.its_file j.its_call j.its_bytes j.its_end fit shown synced)
+      subst (λ (l : List LoggedCall). IsKept l (set files i k)) (sym j.pushed) (kept_push call bytes end j.logged j.its_file j.its_call j.its_bytes j.its_end fit shown synced)
 
   -- the log still tells what the files hold
   pub still_kept : (call : DeviceCall) (bytes : List ℕ) (result : Result (Unit {0}) DeviceFault) → FitsCall call h.shown → Works file call bytes log log_after h k result → IsKept log_after (set files i k)

@@ -8,9 +8,18 @@ use Rattle.dl_depot.specs.declared.fuse.Outcome.{Outcome}
 use Rattle.dl_depot.specs.declared.fuse.Outcome.TheVariants.{Before, After}
 use Rattle.dl_depot.specs.View.{View, Keeps}
 
--- a count rose, or stands at the greatest u64
+-- a count of faults is a u64: one that stands at the greatest stays there
+abbrev pub last_count : ℕ
+last_count = 2 ^ 64 - 1
+
+-- a count rose, or stands at its last value
 abbrev pub Rose : ℕ → ℕ → Type 0
-Rose before now = min (before + 1) (2 ^ 64 - 1) ≤ now
+Rose before now = min (before + 1) last_count ≤ now
+
+-- a call that fails raises the count of faults, and one that succeeds leaves it
+pub record CountsFault {X : Type 0} (before now : ℕ) (result : Result X DeviceFault) : Type 0 where
+  pub passed : OnOk result (now ≡ before)
+  pub failed : OnErr result (Rose before now)
 
 -- after a write of n bytes that a stop cuts short: any bytes in the range and past the old end, the same elsewhere
 pub record Torn (at n : ℕ) (old new : List ℕ) : Type 0 where
@@ -29,10 +38,10 @@ abbrev pub put : ℕ → List ℕ → List ℕ → List ℕ
 put at bytes old = take at old ++ (bytes ++ drop (at + length bytes) old)
 
 -- what each call does to the bytes shown
-abbrev pub done : DeviceCall → List ℕ → List ℕ → List ℕ
-done (Write at n) bytes old = put at bytes old
-done (Cut size) bytes old = take size old
-done Sync bytes old = old
+abbrev pub effect_of : DeviceCall → List ℕ → List ℕ → List ℕ
+effect_of (Write at n) bytes old = put at bytes old
+effect_of (Cut size) bytes old = take size old
+effect_of Sync bytes old = old
 
 -- what a stop in each call may make of an image
 abbrev pub Step : DeviceCall → List ℕ → List ℕ → Type 0
@@ -57,7 +66,7 @@ IsAlive old file result = (f : Fuse) → old.fuse file ≡ Some (Some f) → OnO
 pub record Sized (old new : View) (file : ℕ) (result : Result ℕ DeviceFault) : Type 0 where
   pub looks : Looks old new file
   pub size : (bytes : List ℕ) → old.shown file ≡ Some bytes → IfOk result (λ n. n ≡ length bytes)
-  pub failed : OnErr result (Rose (old.faults file) (new.faults file))
+  pub counts : CountsFault (old.faults file) (new.faults file) result
   pub alive : IsAlive old file result
 
 -- `count` bytes from `at` on stand at the start of the buffer
@@ -70,7 +79,7 @@ pub record Read (old new : View) (file at : ℕ) (into : List ℕ) (result : Res
   pub looks : Looks old new file
   pub at_most : IfOk result (λ n. n ≤ length into)
   pub bytes : (bytes : List ℕ) → old.shown file ≡ Some bytes → IfOk result (λ n. Gives at n bytes into)
-  pub failed : OnErr result (Rose (old.faults file) (new.faults file))
+  pub counts : CountsFault (old.faults file) (new.faults file) result
   pub alive : IsAlive old file result
 
 -- a stop with this outcome leaves all that was written, or the bytes of the last sync
@@ -90,7 +99,7 @@ pub record Stops (old new : View) (file : ℕ) (call : DeviceCall) (bytes : List
   pub whole : f.stopped ≡ false
   pub due : f.left ≡ 0
   pub fuse : new.fuse file ≡ Some (Some (record f { stopped = true }))
-  pub shown : (was last : List ℕ) → old.shown file ≡ Some was → old.synced file ≡ Some last → new.shown file ≡ Some (left_by f.outcome (done call bytes was) last)
+  pub shown : (was last : List ℕ) → old.shown file ≡ Some was → old.synced file ≡ Some last → new.shown file ≡ Some (left_by f.outcome (effect_of call bytes was) last)
   pub told : (calls : List DeviceCall) → old.calls file ≡ Some calls → new.calls file ≡ Some (calls ++ call ∷ [])
 
 -- a fuse lets a call pass, stops it, or the call fails before the fuse comes to it
@@ -102,8 +111,8 @@ Burns old new file call bytes f (Err e) = (new.fuse file ≡ Some (Some f)) ⊎ 
 pub record Writes (old new : View) (file : ℕ) (call : DeviceCall) (bytes : List ℕ) (result : Result (Unit {0}) DeviceFault) : Type 0 where
   pub keeps : Keeps file old new
   pub images : (t : ℕ) (c : List ℕ) → old.moment ≤ t → t ≤ new.moment → new.image file t c → (d : List ℕ) × old.image file old.moment d × Step call d c
-  pub shown : (was : List ℕ) → old.shown file ≡ Some was → OnOk result (new.shown file ≡ Some (done call bytes was))
-  pub failed : OnErr result (Rose (old.faults file) (new.faults file))
+  pub shown : (was : List ℕ) → old.shown file ≡ Some was → OnOk result (new.shown file ≡ Some (effect_of call bytes was))
+  pub counts : CountsFault (old.faults file) (new.faults file) result
   pub told : (calls : List DeviceCall) → old.calls file ≡ Some calls → OnOk result (new.calls file ≡ Some (calls ++ call ∷ []))
   -- a call that fails was made or not
   pub maybe_told : (calls : List DeviceCall) → old.calls file ≡ Some calls → (new.calls file ≡ Some calls) ⊎ (new.calls file ≡ Some (calls ++ call ∷ []))

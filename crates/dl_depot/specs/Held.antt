@@ -1,15 +1,15 @@
 -- What a depot in memory holds of one file, and what each call makes of it.
-use Rattle.std.specs.Prelude.{◌≡◌, ◌≤◌, ◌+◌, ◌-◌, ◌^◌, ◌++◌, [], ◌∷◌, ◌==◌, ◌||◌, min, max, take, ℕ, List, Option, Some, None, Bool, true, false, cond, length, Result, Ok, Err}
+use Rattle.std.specs.Prelude.{◌≡◌, ◌≤◌, ◌+◌, ◌-◌, ◌++◌, [], ◌∷◌, ◌==◌, ◌||◌, min, max, take, ℕ, List, Option, Some, None, Bool, true, false, cond, length, Result, Ok, Err}
 use Rattle.std.specs.declared.alloc.AllocError.{AllocError}
 use Rattle.dl_depot.specs.declared.device_call.DeviceCall.{DeviceCall}
 use Rattle.dl_depot.specs.declared.device_call.DeviceCall.TheVariants.{Write, Cut, Sync}
 use Rattle.dl_depot.specs.declared.device_fault.DeviceFault.{DeviceFault}
-use Rattle.dl_depot.specs.declared.entry.End.{End}
-use Rattle.dl_depot.specs.declared.entry.End.TheVariants.{Passed, StoppedBefore, StoppedAfter}
+use Rattle.dl_depot.specs.declared.logged_call.End.{End}
+use Rattle.dl_depot.specs.declared.logged_call.End.TheVariants.{Passed, StoppedBefore, StoppedAfter}
 use Rattle.dl_depot.specs.declared.fuse.Fuse.{Fuse}
 use Rattle.dl_depot.specs.declared.fuse.Outcome.{Outcome}
 use Rattle.dl_depot.specs.declared.fuse.Outcome.TheVariants.{Before, After}
-use Rattle.dl_depot.specs.Device.{done}
+use Rattle.dl_depot.specs.Device.{last_count, effect_of}
 
 -- what is held of one file
 pub record Held : Type 0 where
@@ -39,20 +39,20 @@ has_stopped None = false
 has_stopped (Some f) = f.stopped
 
 -- the next call fails before it does anything: its number is due, or a fuse has stopped a call
-abbrev pub refuses : Held → Bool
-refuses h = (h.due == 1) || has_stopped h.fuse
+abbrev pub is_refused : Held → Bool
+is_refused h = (h.due == 1) || has_stopped h.fuse
 
 -- a call has been counted
-abbrev pub called : Held → Held
-called h = record h { due = h.due - 1 }
+abbrev pub after_call : Held → Held
+after_call h = record h { due = h.due - 1 }
 
--- one more, up to the greatest u64
-abbrev pub risen : ℕ → ℕ
-risen n = max n (min (n + 1) (2 ^ 64 - 1))
+-- one more, up to the last
+abbrev pub count_after : ℕ → ℕ
+count_after n = max n (min (n + 1) last_count)
 
 -- a fault has been counted
-abbrev pub faulted : Held → Held
-faulted h = record h { faults = risen h.faults }
+abbrev pub after_fault : Held → Held
+after_fault h = record h { faults = count_after h.faults }
 
 -- how a call ends that this outcome stops
 abbrev pub stop_of : Outcome → End
@@ -69,18 +69,18 @@ end_of None = Passed
 end_of (Some f) = end_by f
 
 -- a fuse after a writing call that it let pass or stopped
-abbrev pub burnt : Fuse → Fuse
-burnt f = cond (f.left == 0) (record f { stopped = true }) (record f { left = f.left - 1 })
+abbrev pub fuse_after : Fuse → Fuse
+fuse_after f = cond (f.left == 0) (record f { stopped = true }) (record f { left = f.left - 1 })
 
 -- the same, with a fuse or without
-abbrev pub spent : Option Fuse → Option Fuse
-spent None = None
-spent (Some f) = Some (burnt f)
+abbrev pub set_fuse_after : Option Fuse → Option Fuse
+set_fuse_after None = None
+set_fuse_after (Some f) = Some (fuse_after f)
 
 -- the bytes shown after a writing call with this end, where reads gave `was` and `last` was synced last
 abbrev pub shown_by : DeviceCall → List ℕ → End → List ℕ → List ℕ → List ℕ
-shown_by call bytes Passed was last = done call bytes was
-shown_by call bytes StoppedAfter was last = done call bytes was
+shown_by call bytes Passed was last = effect_of call bytes was
+shown_by call bytes StoppedAfter was last = effect_of call bytes was
 shown_by call bytes StoppedBefore was last = last
 
 -- the bytes of the last sync after a call that passed
@@ -96,17 +96,17 @@ synced_by call StoppedAfter was last = last
 synced_by call StoppedBefore was last = last
 
 -- what is held after a writing call that was made, with this end
-abbrev pub made : DeviceCall → List ℕ → End → Held → Held
-made call bytes end h = record h {
+abbrev pub after_work : DeviceCall → List ℕ → End → Held → Held
+after_work call bytes end h = record h {
   shown = shown_by call bytes end h.shown h.synced;
   synced = synced_by call end h.shown h.synced;
   calls = h.calls ++ call ∷ [];
-  fuse = spent h.fuse;
+  fuse = set_fuse_after h.fuse;
 }
 
 -- a call that passed succeeds; one that was stopped or found no memory fails, and the fault is counted
 abbrev pub Settles : Held → Held → Result End AllocError → Result (Unit {0}) DeviceFault → Type 0
 Settles h k (Ok Passed) result = (k ≡ h) × (result ≡ Ok tt)
-Settles h k (Ok StoppedAfter) result = (k ≡ faulted h) × (result ≡ Err (record {}))
-Settles h k (Ok StoppedBefore) result = (k ≡ faulted h) × (result ≡ Err (record {}))
-Settles h k (Err e) result = (k ≡ faulted h) × (result ≡ Err (record {}))
+Settles h k (Ok StoppedAfter) result = (k ≡ after_fault h) × (result ≡ Err (record {}))
+Settles h k (Ok StoppedBefore) result = (k ≡ after_fault h) × (result ≡ Err (record {}))
+Settles h k (Err e) result = (k ≡ after_fault h) × (result ≡ Err (record {}))

@@ -1,3 +1,4 @@
+pub mod Files
 pub mod View
 pub mod Device
 pub mod Stops
@@ -5,3 +6,4 @@ pub mod Held
 pub mod Log
 pub mod Reads
 pub mod Memory
+pub mod Laws

@@ -4,14 +4,15 @@ use Rattle.std.specs.declared.alloc.AllocError.{AllocError}
 use Rattle.dl_depot.specs.declared.device_call.DeviceCall.{DeviceCall}
 use Rattle.dl_depot.specs.declared.device_call.DeviceCall.TheVariants.{Write, Cut, Sync}
 use Rattle.dl_depot.specs.declared.device_fault.DeviceFault.{DeviceFault}
-use Rattle.dl_depot.specs.declared.entry.Work.{Work}
-use Rattle.dl_depot.specs.declared.entry.Work.TheVariants
-use Rattle.dl_depot.specs.declared.entry.End.{End}
-use Rattle.dl_depot.specs.declared.entry.End.TheVariants.{Passed, StoppedBefore, StoppedAfter}
-use Rattle.dl_depot.specs.declared.entry.Entry.{Entry}
+use Rattle.dl_depot.specs.declared.logged_call.Work.{Work}
+use Rattle.dl_depot.specs.declared.logged_call.Work.TheVariants
+use Rattle.dl_depot.specs.declared.logged_call.End.{End}
+use Rattle.dl_depot.specs.declared.logged_call.End.TheVariants.{Passed, StoppedBefore, StoppedAfter}
+use Rattle.dl_depot.specs.declared.logged_call.LoggedCall.{LoggedCall}
+use Rattle.dl_depot.specs.Files.{file_count}
 use Rattle.dl_depot.specs.View.{View}
 use Rattle.dl_depot.specs.Device.{Step}
-use Rattle.dl_depot.specs.Held.{Held, empty_held, refuses, called, faulted, end_of, shown_by, synced_by, made}
+use Rattle.dl_depot.specs.Held.{Held, empty_held, is_refused, after_call, after_fault, end_of, shown_by, synced_by, after_work}
 
 -- the call that work was done by
 abbrev pub call_of : Work → DeviceCall
@@ -26,13 +27,13 @@ bytes_of (TheVariants.Cut size) = []
 bytes_of TheVariants.Sync = []
 
 -- the bytes shown and last synced after one call
-abbrev pub after : Entry → List ℕ × List ℕ → List ℕ × List ℕ
-after e s = (shown_by (call_of e.work) (bytes_of e.work) e.end s.0 s.1, synced_by (call_of e.work) e.end s.0 s.1)
+abbrev pub state_after : LoggedCall → List ℕ × List ℕ → List ℕ × List ℕ
+state_after e s = (shown_by (call_of e.work) (bytes_of e.work) e.end s.0 s.1, synced_by (call_of e.work) e.end s.0 s.1)
 
 -- those of a file after these calls, the newest first
-abbrev pub state_of : ℕ → List Entry → List ℕ × List ℕ
+abbrev pub state_of : ℕ → List LoggedCall → List ℕ × List ℕ
 state_of f [] = ([], [])
-state_of f (e ∷ past) = cond (e.file == f) (after e (state_of f past)) (state_of f past)
+state_of f (e ∷ past) = cond (e.file == f) (state_after e (state_of f past)) (state_of f past)
 
 -- the one or the other
 abbrev pub Choose : Bool → Type 0 → Type 0 → Type 0
@@ -56,38 +57,38 @@ Left call StoppedAfter shown Old c = Stepped call Old c
 Left call StoppedBefore shown Old c = Stepped call Old c
 
 -- what a stop may leave of a file after these calls, the newest first
-abbrev pub ImageOf : ℕ → List Entry → List ℕ → Type 0
+abbrev pub ImageOf : ℕ → List LoggedCall → List ℕ → Type 0
 ImageOf f [] c = c ≡ []
 ImageOf f (e ∷ past) c = Choose (e.file == f) (Left (call_of e.work) e.end (state_of f past).0 (ImageOf f past) c) (ImageOf f past c)
 
 -- a write begins inside the file
-abbrev pub Fits : Work → List ℕ → Type 0
-Fits (TheVariants.Write at bytes) shown = at ≤ length shown
-Fits (TheVariants.Cut size) shown = ⊤
-Fits TheVariants.Sync shown = ⊤
+abbrev pub IsInside : Work → List ℕ → Type 0
+IsInside (TheVariants.Write at bytes) shown = at ≤ length shown
+IsInside (TheVariants.Cut size) shown = ⊤
+IsInside TheVariants.Sync shown = ⊤
 
 -- each write does
-abbrev pub IsLog : List Entry → Type 0
+abbrev pub IsLog : List LoggedCall → Type 0
 IsLog [] = ⊤
-IsLog (e ∷ past) = Fits e.work (state_of e.file past).0 × IsLog past
+IsLog (e ∷ past) = IsInside e.work (state_of e.file past).0 × IsLog past
 
 -- the same as a test
-abbrev pub fits : Work → List ℕ → Bool
-fits (TheVariants.Write at bytes) shown = nat_le at (length shown)
-fits (TheVariants.Cut size) shown = true
-fits TheVariants.Sync shown = true
+abbrev pub is_inside : Work → List ℕ → Bool
+is_inside (TheVariants.Write at bytes) shown = nat_le at (length shown)
+is_inside (TheVariants.Cut size) shown = true
+is_inside TheVariants.Sync shown = true
 
 -- and for each
-abbrev pub is_log : List Entry → Bool
+abbrev pub is_log : List LoggedCall → Bool
 is_log [] = true
-is_log (e ∷ past) = fits e.work (state_of e.file past).0 && is_log past
+is_log (e ∷ past) = is_inside e.work (state_of e.file past).0 && is_log past
 
 -- what is held of a file, where a file past the last is empty
 abbrev pub held_at : List Held → ℕ → Held
 held_at files f = slice_index_or files f empty_held
 
 -- the meanings of a depot with this log, the newest call last, that holds this of each file
-abbrev pub view_of : List Entry → (ℕ → Held) → View
+abbrev pub view_of : List LoggedCall → (ℕ → Held) → View
 view_of log held = record {
   shown = λ f. Some (held f).shown;
   synced = λ f. Some (held f).synced;
@@ -98,47 +99,47 @@ view_of log held = record {
   faults = λ f. (held f).faults;
 }
 
--- 34 files, each with the bytes that the log tells
-pub record IsKept (log : List Entry) (files : List Held) : Type 0 where
+-- all files, each with the bytes that the log tells
+pub record IsKept (log : List LoggedCall) (files : List Held) : Type 0 where
   pub log_fits : is_log (reverse log) ≡ true
-  pub count : length files ≡ 34
+  pub count : length files ≡ file_count
   pub shown : (f : ℕ) → (state_of f (reverse log)).0 ≡ (held_at files f).shown
   pub synced : (f : ℕ) → (state_of f (reverse log)).1 ≡ (held_at files f).synced
 
 -- a call has joined the log
-pub record Joined (file : ℕ) (call : DeviceCall) (bytes : List ℕ) (end : End) (log log_after : List Entry) : Type 0 where
-  pub entry : Entry
-  pub its_file : entry.file ≡ file
-  pub its_call : call_of entry.work ≡ call
-  pub its_bytes : bytes_of entry.work ≡ bytes
-  pub its_end : entry.end ≡ end
-  pub pushed : log_after ≡ log ++ entry ∷ []
+pub record Joined (file : ℕ) (call : DeviceCall) (bytes : List ℕ) (end : End) (log log_after : List LoggedCall) : Type 0 where
+  pub logged : LoggedCall
+  pub its_file : logged.file ≡ file
+  pub its_call : call_of logged.work ≡ call
+  pub its_bytes : bytes_of logged.work ≡ bytes
+  pub its_end : logged.end ≡ end
+  pub pushed : log_after ≡ log ++ logged ∷ []
 
 -- a writing call that nothing else fails: it joins the log and changes the file, or memory ran out and nothing is changed
-abbrev pub Tries : ℕ → DeviceCall → List ℕ → List Entry → List Entry → Held → Held → Result End AllocError → Type 0
-Tries file call bytes log log_after h k (Ok end) = (end ≡ end_of h.fuse) × Joined file call bytes end log log_after × (k ≡ made call bytes end h)
+abbrev pub Tries : ℕ → DeviceCall → List ℕ → List LoggedCall → List LoggedCall → Held → Held → Result End AllocError → Type 0
+Tries file call bytes log log_after h k (Ok end) = (end ≡ end_of h.fuse) × Joined file call bytes end log log_after × (k ≡ after_work call bytes end h)
 Tries file call bytes log log_after h k (Err e) = (log_after ≡ log) × (k ≡ h)
 
 -- a writing call was made, and its fuse let it pass
-pub record Succeeded (file : ℕ) (call : DeviceCall) (bytes : List ℕ) (log log_after : List Entry) (h k : Held) : Type 0 where
-  pub alive : refuses h ≡ false
+pub record Succeeded (file : ℕ) (call : DeviceCall) (bytes : List ℕ) (log log_after : List LoggedCall) (h k : Held) : Type 0 where
+  pub alive : is_refused h ≡ false
   pub passes : end_of h.fuse ≡ Passed
   pub joined : Joined file call bytes Passed log log_after
-  pub here : k ≡ made call bytes Passed (called h)
+  pub here : k ≡ after_work call bytes Passed (after_call h)
 
 -- a writing call was refused, or found no memory
-pub record Refused (log log_after : List Entry) (h k : Held) : Type 0 where
+pub record Refused (log log_after : List LoggedCall) (h k : Held) : Type 0 where
   pub same : log_after ≡ log
-  pub here : k ≡ faulted (called h)
+  pub here : k ≡ after_fault (after_call h)
 
 -- a fuse stopped a writing call
-pub record Stopped (file : ℕ) (call : DeviceCall) (bytes : List ℕ) (log log_after : List Entry) (h k : Held) : Type 0 where
-  pub alive : refuses h ≡ false
+pub record Stopped (file : ℕ) (call : DeviceCall) (bytes : List ℕ) (log log_after : List LoggedCall) (h k : Held) : Type 0 where
+  pub alive : is_refused h ≡ false
   pub stops : end_of h.fuse ≢ Passed
   pub joined : Joined file call bytes (end_of h.fuse) log log_after
-  pub here : k ≡ faulted (made call bytes (end_of h.fuse) (called h))
+  pub here : k ≡ after_fault (after_work call bytes (end_of h.fuse) (after_call h))
 
 -- what a writing call does to the log and its file
-abbrev pub Works : ℕ → DeviceCall → List ℕ → List Entry → List Entry → Held → Held → Result (Unit {0}) DeviceFault → Type 0
+abbrev pub Works : ℕ → DeviceCall → List ℕ → List LoggedCall → List LoggedCall → Held → Held → Result (Unit {0}) DeviceFault → Type 0
 Works file call bytes log log_after h k (Ok u) = Succeeded file call bytes log log_after h k
 Works file call bytes log log_after h k (Err e) = Refused log log_after h k ⊎ Stopped file call bytes log log_after h k

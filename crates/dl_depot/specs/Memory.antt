@@ -2,10 +2,10 @@
 use Rattle.std.specs.Prelude.{◌≡◌, ◌≢◌, ◌⊎◌, ◌↔◌, ℕ, List, true, false, Result, Ok, Err, IsErr, MatchResult}
 use Rattle.dl_depot.specs.declared.device_call.DeviceCall.{DeviceCall}
 use Rattle.dl_depot.specs.declared.device_fault.DeviceFault.{DeviceFault}
-use Rattle.dl_depot.specs.declared.entry.End.TheVariants.{Passed}
+use Rattle.dl_depot.specs.declared.logged_call.End.TheVariants.{Passed}
 use Rattle.dl_depot.specs.declared.memory.MemDepot.{MemDepot}
 use Rattle.dl_depot.specs.View.{View}
-use Rattle.dl_depot.specs.Held.{Held, empty_held, refuses, called, faulted, end_of, made}
+use Rattle.dl_depot.specs.Held.{Held, empty_held, is_refused, after_call, after_fault, end_of, after_work}
 use Rattle.dl_depot.specs.Log.{held_at, view_of}
 
 -- what it holds of each file
@@ -23,15 +23,15 @@ pub record IsNew (d : MemDepot) : Type 0 where
 
 -- a reading call fails exactly where it is refused; it counts itself, and its fault
 pub record Looked {X : Type 0} (old new : ℕ → Held) (file : ℕ) (result : Result X DeviceFault) : Type 0 where
-  pub fails : IsErr result ↔ (refuses (old file) ≡ true)
-  pub here : MatchResult result (λ _. new file ≡ called (old file)) (λ _. new file ≡ faulted (called (old file)))
+  pub fails : IsErr result ↔ (is_refused (old file) ≡ true)
+  pub here : MatchResult result (λ _. new file ≡ after_call (old file)) (λ _. new file ≡ after_fault (after_call (old file)))
   pub others : (f : ℕ) → f ≢ file → new f ≡ old f
 
 -- A writing call succeeds where it is not refused and its fuse lets it pass, unless memory runs out. Where it is refused
 -- or finds no memory, only its fault is counted. Where its fuse stops it, it was made.
 abbrev pub Did : DeviceCall → List ℕ → Held → Held → Result (Unit {0}) DeviceFault → Type 0
-Did call bytes h k (Ok u) = (refuses h ≡ false) × (end_of h.fuse ≡ Passed) × (k ≡ made call bytes Passed (called h))
-Did call bytes h k (Err e) = (k ≡ faulted (called h)) ⊎ ((refuses h ≡ false) × (end_of h.fuse ≢ Passed) × (k ≡ faulted (made call bytes (end_of h.fuse) (called h))))
+Did call bytes h k (Ok u) = (is_refused h ≡ false) × (end_of h.fuse ≡ Passed) × (k ≡ after_work call bytes Passed (after_call h))
+Did call bytes h k (Err e) = (k ≡ after_fault (after_call h)) ⊎ ((is_refused h ≡ false) × (end_of h.fuse ≢ Passed) × (k ≡ after_fault (after_work call bytes (end_of h.fuse) (after_call h))))
 
 -- the same, with the other files
 pub record Wrought (old new : ℕ → Held) (file : ℕ) (call : DeviceCall) (bytes : List ℕ) (result : Result (Unit {0}) DeviceFault) : Type 0 where

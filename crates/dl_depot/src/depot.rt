@@ -10,17 +10,18 @@ use crate::file_id::FileId;
 /// reads give. That is what a journal may count on from a device (BookKeeper documentation, "Bookies: the journal").
 /// No call changes another file, or what a stop in the past left.
 ///
-/// `DeviceFault` comes only where the file's count of faults rose in this call, or stands at the greatest u64.
+/// A call that answers `DeviceFault` raises the file's count of faults, which stays at the greatest u64 once it is
+/// there. A call that answers `Ok` leaves it, so a file had a fault in some work exactly where its count rose.
 pub trait Depot {
     /// All that is meant by it, at one moment.
     ghost view: { Self → View };
 
-    /// The file's size in bytes. It changes nothing but the count of faults.
+    /// The file's size in bytes. It changes nothing, but a fault is counted.
     fn size(&mut self, file: FileId) -> Result<u64, DeviceFault>
         ensures size { Sized (view self.old) (view self.new) file result };
 
     /// Fills the start of `into` with the bytes from `at` on, and answers how many: fewer than asked only at the file's
-    /// end. It changes nothing but the count of faults.
+    /// end. It changes nothing, but a fault is counted.
     fn read(&mut self, file: FileId, at: u64, into: &mut [u8]) -> Result<usize, DeviceFault>
         ensures read { Read (view self.old) (view self.new) file at into.new result };
 

@@ -1,4 +1,5 @@
-ghost use Rattle.std.specs.Prelude.{◌≡◌, ◌≤◌};
+ghost use Rattle.std.specs.Prelude.{◌≡◌, ◌<◌};
+ghost use Rattle.dl_depot.specs.Files.{file_count};
 
 use std::marker::Model;
 
@@ -10,24 +11,25 @@ pub struct FileId {
 }
 
 impl Model for FileId {
-    ghost use Rattle.std.specs.Prelude.{ℕ, ◌≤◌};
+    ghost use Rattle.std.specs.Prelude.{ℕ, ◌<◌};
+    ghost use Rattle.dl_depot.specs.Files.{file_count};
 
     ghost Value = { ℕ };
 
     ghost view = { λ f. f.number };
 
-    ghost invariant = { λ f. f.number ≤ 33 };
+    ghost invariant = { λ f. f.number < file_count };
 
     ghost inverse = { λ n. record { number = n } };
 }
 
 impl FileId {
-    /// How many files a depot has.
+    /// How many files a depot has: two for the metadata, and two for each of 16 bookies.
     pub const COUNT: usize = 34;
 
     /// The file of this number.
     pub fn new(number: u8) -> FileId
-        requires { number ≤ 33 }
+        requires { number < file_count }
         ensures { result ≡ number }
     {
         FileId { number }
@@ -36,7 +38,7 @@ impl FileId {
     /// The file's number, as an index.
     pub fn index(self) -> usize
         ensures value { result ≡ self }
-        ensures bound { result ≤ 33 }
+        ensures bound { result < file_count }
     {
         self.number as usize
     }

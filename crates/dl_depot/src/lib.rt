@@ -4,10 +4,11 @@
 pub mod depot;
 pub mod device_call;
 pub mod device_fault;
-pub mod entry;
 pub mod file_id;
 pub mod fuse;
+pub mod laws;
 pub mod log;
+pub mod logged_call;
 pub mod mem_file;
 pub mod memory;
 pub mod stopper;

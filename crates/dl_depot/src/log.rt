@@ -4,8 +4,8 @@ ghost use Rattle.dl_depot.specs.Log.{Tries, Works};
 
 use crate::device_call::DeviceCall;
 use crate::device_fault::DeviceFault;
-use crate::entry::{End, Entry, Work};
 use crate::file_id::FileId;
+use crate::logged_call::{End, LoggedCall, Work};
 use crate::mem_file::MemFile;
 use std::alloc::{AllocError, Global};
 
@@ -13,7 +13,7 @@ use std::alloc::{AllocError, Global};
 /// memory runs out.
 pub fn write(
     alloc: Global,
-    log: &mut Vec<Entry>,
+    log: &mut Vec<LoggedCall>,
     held: &mut MemFile,
     file: FileId,
     at: u64,
@@ -33,7 +33,7 @@ pub fn write(
 /// A cut of a file in memory, with the log of its depot. It fails as `write` does.
 pub fn cut(
     alloc: Global,
-    log: &mut Vec<Entry>,
+    log: &mut Vec<LoggedCall>,
     held: &mut MemFile,
     file: FileId,
     size: u64,
@@ -52,7 +52,7 @@ pub fn cut(
 /// A sync of a file in memory, with the log of its depot. It fails as `write` does.
 pub fn sync(
     alloc: Global,
-    log: &mut Vec<Entry>,
+    log: &mut Vec<LoggedCall>,
     held: &mut MemFile,
     file: FileId,
 ) -> Result<(), DeviceFault>
@@ -68,7 +68,7 @@ pub fn sync(
 
 fn try_write(
     alloc: Global,
-    log: &mut Vec<Entry>,
+    log: &mut Vec<LoggedCall>,
     held: &mut MemFile,
     file: FileId,
     at: u64,
@@ -90,7 +90,7 @@ fn try_write(
         )?,
         End::Passed | End::StoppedAfter => held.write(at, bytes)?,
     }
-    log.push(Entry {
+    log.push(LoggedCall {
         file,
         work: Work::Write { at, bytes: kept },
         end,
@@ -101,7 +101,7 @@ fn try_write(
 
 fn try_cut(
     alloc: Global,
-    log: &mut Vec<Entry>,
+    log: &mut Vec<LoggedCall>,
     held: &mut MemFile,
     file: FileId,
     size: u64,
@@ -115,7 +115,7 @@ fn try_cut(
         End::StoppedBefore => held.restore(alloc, DeviceCall::Cut { size })?,
         End::Passed | End::StoppedAfter => held.cut(size)?,
     }
-    log.push(Entry {
+    log.push(LoggedCall {
         file,
         work: Work::Cut { size },
         end,
@@ -126,7 +126,7 @@ fn try_cut(
 
 fn try_sync(
     alloc: Global,
-    log: &mut Vec<Entry>,
+    log: &mut Vec<LoggedCall>,
     held: &mut MemFile,
     file: FileId,
 ) -> Result<End, AllocError>
@@ -139,7 +139,7 @@ fn try_sync(
         End::StoppedBefore => held.restore(alloc, DeviceCall::Sync)?,
         End::StoppedAfter => held.miss_sync()?,
     }
-    log.push(Entry {
+    log.push(LoggedCall {
         file,
         work: Work::Sync,
         end,

@@ -1,13 +1,13 @@
 ghost use Rattle.std.specs.Prelude.{◌≡◌, ◌≤◌, ◌<◌, ◌-◌, ◌++◌, ◌∷◌, [], length, MatchResult, List, ℕ, take};
 ghost use Rattle.dl_depot.specs.declared.device_call.DeviceCall.TheVariants.{Write, Cut, Sync};
-ghost use Rattle.dl_depot.specs.declared.entry.End.TheVariants.{Passed, StoppedBefore, StoppedAfter};
+ghost use Rattle.dl_depot.specs.declared.logged_call.End.TheVariants.{Passed, StoppedBefore, StoppedAfter};
 ghost use Rattle.dl_depot.specs.Device.{put};
-ghost use Rattle.dl_depot.specs.Held.{empty_held, refuses, called, faulted, end_by, end_of, burnt, spent, has_stopped, made, Settles};
+ghost use Rattle.dl_depot.specs.Held.{empty_held, is_refused, after_call, after_fault, end_by, end_of, fuse_after, set_fuse_after, has_stopped, after_work, Settles};
 
 use crate::device_call::DeviceCall;
 use crate::device_fault::DeviceFault;
-use crate::entry::End;
 use crate::fuse::{Fuse, Outcome};
+use crate::logged_call::End;
 use std::alloc::{AllocError, Global};
 use std::marker::Model;
 
@@ -68,8 +68,8 @@ fn end_by(fuse: Fuse) -> End
     }
 }
 
-fn burnt(fuse: Fuse) -> Fuse
-    ensures { result ≡ burnt fuse }
+fn fuse_after(fuse: Fuse) -> Fuse
+    ensures { result ≡ fuse_after fuse }
 {
     if fuse.left > 0 {
         Fuse {
@@ -84,11 +84,11 @@ fn burnt(fuse: Fuse) -> Fuse
     }
 }
 
-fn spent(fuse: Option<Fuse>) -> Option<Fuse>
-    ensures { result ≡ spent fuse }
+fn set_fuse_after(fuse: Option<Fuse>) -> Option<Fuse>
+    ensures { result ≡ set_fuse_after fuse }
 {
     match fuse {
-        Some(fuse) => Some(burnt(fuse)),
+        Some(fuse) => Some(fuse_after(fuse)),
         None => None,
     }
 }
@@ -156,8 +156,8 @@ impl MemFile {
 
     /// Counts a call, and says whether it is to fail before it does anything.
     pub fn refuses(&mut self) -> bool
-        ensures answer { result ≡ refuses self.old }
-        ensures counted { self.new ≡ called self.old }
+        ensures answer { result ≡ is_refused self.old }
+        ensures counted { self.new ≡ after_call self.old }
     {
         let is_due = self.due == 1;
         self.due = self.due.saturating_sub(1);
@@ -166,7 +166,7 @@ impl MemFile {
 
     /// Counts a fault, up to the greatest u64.
     pub fn count_fault(&mut self)
-        ensures { self.new ≡ faulted self.old }
+        ensures { self.new ≡ after_fault self.old }
     {
         self.faults = self.faults.saturating_add(1);
     }
@@ -184,7 +184,7 @@ impl MemFile {
     /// A write that passes, or that is stopped with all bytes written.
     pub fn write(&mut self, at: u64, bytes: &[u8]) -> Result<(), AllocError>
         requires { at ≤ length self.old.shown }
-        ensures { MatchResult result (λ _. self.new ≡ made (Write at (length bytes.now)) bytes.now Passed self.old) (λ _. self.new ≡ self.old) }
+        ensures { MatchResult result (λ _. self.new ≡ after_work (Write at (length bytes.now)) bytes.now Passed self.old) (λ _. self.new ≡ self.old) }
     {
         self.calls.reserve(1)?;
         put_at(&mut self.bytes, at as usize, bytes)?;
@@ -195,25 +195,25 @@ impl MemFile {
                 length: bytes.len() as u64,
             })
             .unwrap();
-        self.fuse = spent(self.fuse);
+        self.fuse = set_fuse_after(self.fuse);
         Ok(())
     }
 
     /// A cut that passes, or that is stopped with its work done.
     pub fn cut(&mut self, size: u64) -> Result<(), AllocError>
         requires { size ≤ length self.old.shown }
-        ensures { MatchResult result (λ _. self.new ≡ made (Cut size) [] Passed self.old) (λ _. self.new ≡ self.old) }
+        ensures { MatchResult result (λ _. self.new ≡ after_work (Cut size) [] Passed self.old) (λ _. self.new ≡ self.old) }
     {
         self.calls.push(DeviceCall::Cut { size })?;
         self.bytes.truncate(size as usize);
         self.same = self.same.min(size as usize);
-        self.fuse = spent(self.fuse);
+        self.fuse = set_fuse_after(self.fuse);
         Ok(())
     }
 
     /// A sync that passes.
     pub fn sync(&mut self) -> Result<(), AllocError>
-        ensures { MatchResult result (λ _. self.new ≡ made Sync [] Passed self.old) (λ _. self.new ≡ self.old) }
+        ensures { MatchResult result (λ _. self.new ≡ after_work Sync [] Passed self.old) (λ _. self.new ≡ self.old) }
     {
         let changed = self.bytes.len() - self.same;
         self.synced.reserve(changed)?;
@@ -223,28 +223,28 @@ impl MemFile {
             .extend_from_slice(&self.bytes[self.same..])
             .unwrap();
         self.same = self.bytes.len();
-        self.fuse = spent(self.fuse);
+        self.fuse = set_fuse_after(self.fuse);
         Ok(())
     }
 
     /// A sync that is stopped with all bytes written.
     pub fn miss_sync(&mut self) -> Result<(), AllocError>
-        ensures { MatchResult result (λ _. self.new ≡ made Sync [] StoppedAfter self.old) (λ _. self.new ≡ self.old) }
+        ensures { MatchResult result (λ _. self.new ≡ after_work Sync [] StoppedAfter self.old) (λ _. self.new ≡ self.old) }
     {
         self.calls.push(DeviceCall::Sync)?;
-        self.fuse = spent(self.fuse);
+        self.fuse = set_fuse_after(self.fuse);
         Ok(())
     }
 
     /// A writing call that is stopped, and leaves the bytes of the last sync.
     pub fn restore(&mut self, alloc: Global, call: DeviceCall) -> Result<(), AllocError>
-        ensures { MatchResult result (λ _. self.new ≡ made call [] StoppedBefore self.old) (λ _. self.new ≡ self.old) }
+        ensures { MatchResult result (λ _. self.new ≡ after_work call [] StoppedBefore self.old) (λ _. self.new ≡ self.old) }
     {
         let last = Vec::from_slice(alloc, &self.synced)?;
         self.calls.push(call)?;
         self.bytes = last;
         self.same = self.bytes.len();
-        self.fuse = spent(self.fuse);
+        self.fuse = set_fuse_after(self.fuse);
         Ok(())
     }
 

@@ -6,10 +6,10 @@ ghost use Rattle.dl_depot.specs.Reads.{reads_image};
 use crate::depot::Depot;
 use crate::device_call::DeviceCall;
 use crate::device_fault::DeviceFault;
-use crate::entry::Entry;
 use crate::file_id::FileId;
 use crate::fuse::{Fuse, Outcome};
 use crate::log;
+use crate::logged_call::LoggedCall;
 use crate::mem_file::MemFile;
 use crate::stopper::Stopper;
 use dl_types::memory::NoMemory;
@@ -24,7 +24,7 @@ use std::alloc::Global;
 #[derive(Drop)]
 pub struct MemDepot {
     alloc: Global,
-    log: Vec<Entry>,
+    log: Vec<LoggedCall>,
     files: Vec<MemFile>,
     ghost kept: { IsKept log.items files.items },
 }

@@ -3,7 +3,7 @@ use Rattle.std.proofs.Common.{◌≡◌, ℕ, zero, suc, ◌+◌, ◌≤◌, ◌
 use Rattle.std.proofs.lemmas.Nat.{be_bytes_4, be_bytes_8}
 use Rattle.std.proofs.lemmas.List.{drop-drop}
 use Rattle.std.specs.Int.{w32, w64, to_be_bytes, from_be_bytes}
-use Rattle.dl_journal.specs.Batches.{framed}
+use Rattle.dl_journal.specs.Batches.{frame_of}
 use Rattle.dl_journal.specs.Reading.{number_of, size_of}
 
 -- each item is a byte
@@ -30,8 +30,8 @@ four_parts n rest =
     ∙ take-append-drop 8 rest
 
 -- number, length and body stand in the bytes
-pub unframed : (rest : List ℕ) → AreBytes rest → 12 + size_of rest ≤ length rest → framed (number_of rest) (take (size_of rest) (drop 12 rest)) ++ drop (12 + size_of rest) rest ≡ rest
-unfolding framed number_of size_of
+pub unframed : (rest : List ℕ) → AreBytes rest → 12 + size_of rest ≤ length rest → frame_of (number_of rest) (take (size_of rest) (drop 12 rest)) ++ drop (12 + size_of rest) rest ≡ rest
+unfolding frame_of number_of size_of
 unframed rest are long =
     let size = from_be_bytes w32 (take 4 (drop 8 rest)) in
     let body = take size (drop 12 rest) in

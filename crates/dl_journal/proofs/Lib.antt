@@ -1,8 +1,11 @@
 pub mod Bytes
 pub mod Through
-pub mod Committing
 pub mod Room
+pub mod Staging
+pub mod Standing
+pub mod Committing
 pub mod Framing
 pub mod Parsing
 pub mod WholeFile
 pub mod OneWay
+pub mod InPlace

@@ -1,11 +1,12 @@
 -- Batches behind gates are spelled in one way.
-use Rattle.std.proofs.Common.{◌≡◌, ◌≢◌, ◌⊎◌, inl, inr, ℕ, ◌+◌, ◌<◌, ◌^◌, List, [], ◌∷◌, ◌++◌, length, drop, take, Option, Some, Bool, true, false, ◌==◌, ◌&&◌, nat_lt, sym, ◌∙◌, ap, subst, refl, arith, append_assoc, length-append}
+use Rattle.std.proofs.Common.{◌≡◌, ◌≢◌, ◌⊎◌, inl, inr, ℕ, ◌+◌, ◌≤◌, ◌<◌, ◌^◌, List, [], ◌∷◌, ◌++◌, length, drop, take, Option, Some, Bool, true, false, ◌==◌, ◌&&◌, nat_le, sym, ◌∙◌, ap, subst, refl, arith, append_assoc, length-append}
 use Rattle.std.specs.Int.{w32, w64, to_be_bytes, from_be_bytes}
 use Rattle.std.proofs.lemmas.Nat.{from_be_bytes-to_be_bytes_4, from_be_bytes-to_be_bytes_8}
 use Rattle.std.proofs.lemmas.Bool.Decides.{nat_tests}
 use Rattle.std.proofs.lemmas.List.{take_at, drop_at, append_cancel_left}
 use Rattle.dl_journal.specs.declared.batch.Batch.{Batch}
-use Rattle.dl_journal.specs.Batches.{magic, framed, spell, Runs, InForce}
+use Rattle.dl_journal.specs.Limits.{last_number, gate_size}
+use Rattle.dl_journal.specs.Batches.{magic, frame_of, spell, Runs, InForce}
 use Rattle.dl_journal.specs.Reading.{number_of, size_of, due_of, is_due, BadNumber, BadLength, Fault, Broken, Breaks}
 use Rattle.dl_journal.proofs.Bytes.{length-framed}
 
@@ -16,15 +17,15 @@ length-size : (n : ℕ) → length (to_be_bytes w32 n) ≡ 4
 length-size n = refl
 
 -- what a frame begins with
-number_is : (n : ℕ) (body rest : List ℕ) → n < 2 ^ 63 → number_of (framed n body ++ rest) ≡ n
-unfolding framed number_of
+number_is : (n : ℕ) (body rest : List ℕ) → n ≤ last_number → number_of (frame_of n body ++ rest) ≡ n
+unfolding frame_of number_of
 number_is n body rest most =
     ap (λ (l : List ℕ). from_be_bytes w64 (take 8 l)) (append_assoc (to_be_bytes w64 n) (to_be_bytes w32 (length body) ++ body) rest)
     ∙ ap (λ (l : List ℕ). from_be_bytes w64 l) (take_at (to_be_bytes w64 n) ((to_be_bytes w32 (length body) ++ body) ++ rest) 8 (length-number n))
     ∙ from_be_bytes-to_be_bytes_8 n (omega (arith, most))
 
-size_is : (n : ℕ) (body rest : List ℕ) → length body < 2 ^ 32 → size_of (framed n body ++ rest) ≡ length body
-unfolding framed size_of
+size_is : (n : ℕ) (body rest : List ℕ) → length body < 2 ^ 32 → size_of (frame_of n body ++ rest) ≡ length body
+unfolding frame_of size_of
 size_is n body rest short =
     ap (λ (l : List ℕ). from_be_bytes w32 (take 4 (drop 8 l))) (append_assoc (to_be_bytes w64 n) (to_be_bytes w32 (length body) ++ body) rest)
     ∙ ap (λ (l : List ℕ). from_be_bytes w32 (take 4 l)) (drop_at (to_be_bytes w64 n) ((to_be_bytes w32 (length body) ++ body) ++ rest) 8 (length-number n))
@@ -32,33 +33,33 @@ size_is n body rest short =
     ∙ ap (λ (l : List ℕ). from_be_bytes w32 l) (take_at (to_be_bytes w32 (length body)) (body ++ rest) 4 (length-size (length body)))
     ∙ from_be_bytes-to_be_bytes_4 (length body) short
 
-body_is : (n : ℕ) (body rest : List ℕ) → take (length body) (drop 12 (framed n body ++ rest)) ≡ body
-unfolding framed
+pub body_is : (n : ℕ) (body rest : List ℕ) → take (length body) (drop 12 (frame_of n body ++ rest)) ≡ body
+unfolding frame_of
 body_is n body rest =
     ap (λ (l : List ℕ). take (length body) (drop 12 (l ++ rest))) (sym (append_assoc (to_be_bytes w64 n) (to_be_bytes w32 (length body)) body))
     ∙ ap (λ (l : List ℕ). take (length body) (drop 12 l)) (append_assoc (to_be_bytes w64 n ++ to_be_bytes w32 (length body)) body rest)
     ∙ ap (λ (l : List ℕ). take (length body) l) (drop_at (to_be_bytes w64 n ++ to_be_bytes w32 (length body)) (body ++ rest) 12 refl)
     ∙ take_at body rest (length body) refl
 
-rest_is : (n : ℕ) (body rest : List ℕ) → drop (12 + length body) (framed n body ++ rest) ≡ rest
-rest_is n body rest = drop_at (framed n body) rest (12 + length body) (length-framed n body)
+rest_is : (n : ℕ) (body rest : List ℕ) → drop (12 + length body) (frame_of n body ++ rest) ≡ rest
+rest_is n body rest = drop_at (frame_of n body) rest (12 + length body) (length-framed n body)
 
 abbrev InRange : Batch → Type 0
-InRange b = (b.number < 2 ^ 63) × (length b.body < 2 ^ 32)
+InRange b = (b.number ≤ last_number) × (length b.body < 2 ^ 32)
 
 -- a frame is read in one way
 pub record OneFrame (a b : Batch) (r s : List ℕ) : Type 0 where
   pub batch : a ≡ b
   pub rest : r ≡ s
 
-one_frame : (a b : Batch) (r s : List ℕ) → InRange a → InRange b → framed a.number a.body ++ r ≡ framed b.number b.body ++ s → OneFrame a b r s
+one_frame : (a b : Batch) (r s : List ℕ) → InRange a → InRange b → frame_of a.number a.body ++ r ≡ frame_of b.number b.body ++ s → OneFrame a b r s
 one_frame a b r s of_a of_b same =
     let number : a.number ≡ b.number = sym (number_is a.number a.body r of_a.0) ∙ ap number_of same ∙ number_is b.number b.body s of_b.0 in
     let size : length a.body ≡ length b.body = sym (size_is a.number a.body r of_a.1) ∙ ap size_of same ∙ size_is b.number b.body s of_b.1 in
-    let body : a.body ≡ b.body = sym (body_is a.number a.body r) ∙ ap (λ (l : List ℕ). take (length a.body) (drop 12 l)) same ∙ ap (λ (n : ℕ). take n (drop 12 (framed b.number b.body ++ s))) size ∙ body_is b.number b.body s in
+    let body : a.body ≡ b.body = sym (body_is a.number a.body r) ∙ ap (λ (l : List ℕ). take (length a.body) (drop 12 l)) same ∙ ap (λ (n : ℕ). take n (drop 12 (frame_of b.number b.body ++ s))) size ∙ body_is b.number b.body s in
     record {
       batch = ap (λ (n : ℕ). let x : Batch = record { number = n; body = a.body } in x) number ∙ ap (λ (l : List ℕ). let x : Batch = record { number = b.number; body = l } in x) body;
-      rest = sym (rest_is a.number a.body r) ∙ ap (λ (l : List ℕ). drop (12 + length a.body) l) same ∙ ap (λ (n : ℕ). drop (12 + n) (framed b.number b.body ++ s)) size ∙ rest_is b.number b.body s;
+      rest = sym (rest_is a.number a.body r) ∙ ap (λ (l : List ℕ). drop (12 + length a.body) l) same ∙ ap (λ (n : ℕ). drop (12 + n) (frame_of b.number b.body ++ s)) size ∙ rest_is b.number b.body s;
     }
 
 -- of two readings one goes on where the other ends
@@ -66,20 +67,20 @@ pub record Longer (x y : List Batch) (r s : List ℕ) : Type 0 where
   pub next : Batch
   pub more : List Batch
   pub whole : y ≡ x ++ next ∷ more
-  pub rest : r ≡ 1 ∷ (framed next.number next.body ++ (spell more ++ s))
+  pub rest : r ≡ 1 ∷ (frame_of next.number next.body ++ (spell more ++ s))
 
 abbrev Compared : List Batch → List Batch → List ℕ → List ℕ → Type 0
 Compared x y r s = ((x ≡ y) × (r ≡ s)) ⊎ (Longer x y r s ⊎ Longer y x s r)
 
 compared : (m n : ℕ) (x y : List Batch) (r s : List ℕ) → Runs m x → Runs n y → spell x ++ r ≡ spell y ++ s → Compared x y r s
 compared m n [] [] r s of_x of_y same = inl (refl, same)
-compared m n [] (b ∷ y) r s of_x of_y same = inr (inl (record { next = b; more = y; whole = refl; rest = same ∙ ap (λ (l : List ℕ). 1 ∷ l) (append_assoc (framed b.number b.body) (spell y) s) }))
-compared m n (a ∷ x) [] r s of_x of_y same = inr (inr (record { next = a; more = x; whole = refl; rest = sym same ∙ ap (λ (l : List ℕ). 1 ∷ l) (append_assoc (framed a.number a.body) (spell x) r) }))
+compared m n [] (b ∷ y) r s of_x of_y same = inr (inl (record { next = b; more = y; whole = refl; rest = same ∙ ap (λ (l : List ℕ). 1 ∷ l) (append_assoc (frame_of b.number b.body) (spell y) s) }))
+compared m n (a ∷ x) [] r s of_x of_y same = inr (inr (record { next = a; more = x; whole = refl; rest = sym same ∙ ap (λ (l : List ℕ). 1 ∷ l) (append_assoc (frame_of a.number a.body) (spell x) r) }))
 compared m n (a ∷ x) (b ∷ y) r s of_x of_y same =
-    let tails : (framed a.number a.body ++ spell x) ++ r ≡ (framed b.number b.body ++ spell y) ++ s = cc in
-    let frames : framed a.number a.body ++ (spell x ++ r) ≡ framed b.number b.body ++ (spell y ++ s) = sym (append_assoc (framed a.number a.body) (spell x) r) ∙ tails ∙ append_assoc (framed b.number b.body) (spell y) s in
-    let a_range : InRange a = (subst (λ (k : ℕ). k < 2 ^ 63) (sym of_x.0) of_x.1.0, of_x.1.1.0) in
-    let b_range : InRange b = (subst (λ (k : ℕ). k < 2 ^ 63) (sym of_y.0) of_y.1.0, of_y.1.1.0) in
+    let tails : (frame_of a.number a.body ++ spell x) ++ r ≡ (frame_of b.number b.body ++ spell y) ++ s = cc in
+    let frames : frame_of a.number a.body ++ (spell x ++ r) ≡ frame_of b.number b.body ++ (spell y ++ s) = sym (append_assoc (frame_of a.number a.body) (spell x) r) ∙ tails ∙ append_assoc (frame_of b.number b.body) (spell y) s in
+    let a_range : InRange a = (subst (λ (k : ℕ). k ≤ last_number) (sym of_x.0) of_x.1.0, of_x.1.1.0) in
+    let b_range : InRange b = (subst (λ (k : ℕ). k ≤ last_number) (sym of_y.0) of_y.1.0, of_y.1.1.0) in
     let one = one_frame a b (spell x ++ r) (spell y ++ s) a_range b_range frames in
     elim (compared (m + 1) (n + 1) x y r s of_x.1.1.1 of_y.1.1.1 one.rest) [
       | inl both ↦ inl (ap (λ (l : List Batch). a ∷ l) both.0 ∙ ap (λ (c : Batch). c ∷ y) one.batch, both.1)
@@ -96,46 +97,46 @@ shut_ends : (x y : List Batch) (gate : ℕ) (free s : List ℕ) → gate ≢ 1 �
 shut_ends x y gate free s shut l = let head = l.rest in shut cc
 
 pub one_list : (bytes : List ℕ) (x y : List Batch) → InForce bytes x → InForce bytes y → x ≡ y
-one_list bytes x y p q = elim (of_bytes bytes p.first q.first x y (p.gate ∷ p.free) (q.gate ∷ q.free) p.runs q.runs p.spelled q.spelled) [
+one_list bytes x y p q = elim (of_bytes bytes p.first q.first x y (p.spells.gate ∷ p.spells.free) (q.spells.gate ∷ q.spells.free) p.runs q.runs p.spells.spelled q.spells.spelled) [
   | inl both ↦ both.0
-  | inr (inl l) ↦ absurd (shut_ends x y p.gate p.free _ p.shut l)
-  | inr (inr l) ↦ absurd (shut_ends y x q.gate q.free _ q.shut l)
+  | inr (inl l) ↦ absurd (shut_ends x y p.spells.gate p.spells.free _ p.spells.shut l)
+  | inr (inr l) ↦ absurd (shut_ends y x q.spells.gate q.spells.free _ q.spells.shut l)
 ]
 
 -- a batch that comes next is due
 due_next : (m n : ℕ) (y : List Batch) (b : Batch) (z : List Batch) → Runs m (y ++ b ∷ z) → Runs n y → is_due (due_of n y) b.number ≡ true
-due_next m n [] b z runs of_y = less_true b.number (subst (λ (k : ℕ). k < 2 ^ 63) (sym runs.0) runs.1.0)
+due_next m n [] b z runs of_y = less_true b.number (subst (λ (k : ℕ). k ≤ last_number) (sym runs.0) runs.1.0)
   where
-    less_true : (k : ℕ) → k < 2 ^ 63 → nat_lt k (2 ^ 63) ≡ true
+    less_true : (k : ℕ) → k ≤ last_number → nat_le k last_number ≡ true
     less_true k less = grind (arith, nat_tests)
 due_next m n (c ∷ y) b z runs of_y =
     let two = at_place (m + 1) y runs.1.1.1 in
     let first : m ≡ n = sym runs.0 ∙ of_y.0 in
     both b.number (n + length (c ∷ y)) (omega (arith, two.0, first)) two.1
   where
-    at_place : (k : ℕ) (y : List Batch) → Runs k (y ++ b ∷ z) → (b.number ≡ k + length y) × (b.number < 2 ^ 63)
-    at_place k [] runs = (omega (arith, runs.0), subst (λ (i : ℕ). i < 2 ^ 63) (sym runs.0) runs.1.0)
+    at_place : (k : ℕ) (y : List Batch) → Runs k (y ++ b ∷ z) → (b.number ≡ k + length y) × (b.number ≤ last_number)
+    at_place k [] runs = (omega (arith, runs.0), subst (λ (i : ℕ). i ≤ last_number) (sym runs.0) runs.1.0)
     at_place k (d ∷ y) runs = let two = at_place (k + 1) y runs.1.1.1 in (omega (arith, two.0), two.1)
 
-    both : (k d : ℕ) → k ≡ d → k < 2 ^ 63 → ((k == d) && nat_lt k (2 ^ 63)) ≡ true
+    both : (k d : ℕ) → k ≡ d → k ≤ last_number → ((k == d) && nat_le k last_number) ≡ true
     both k d same less = grind (arith, nat_tests)
 
 -- its length is in range
 short_next : (m : ℕ) (y : List Batch) (b : Batch) (z : List Batch) → Runs m (y ++ b ∷ z) → InRange b
-short_next m [] b z runs = (subst (λ (k : ℕ). k < 2 ^ 63) (sym runs.0) runs.1.0, runs.1.1.0)
+short_next m [] b z runs = (subst (λ (k : ℕ). k ≤ last_number) (sym runs.0) runs.1.0, runs.1.1.0)
 short_next m (c ∷ y) b z runs = short_next (m + 1) y b z runs.1.1.1
 
 -- no fault lies where a batch does
-no_fault : (due : Option ℕ) (more : List ℕ) (place : ℕ) (b : Batch) (rest : List ℕ) → InRange b → is_due due b.number ≡ true → more ≡ framed b.number b.body ++ rest → Fault due more place → ⊥
+no_fault : (due : Option ℕ) (more : List ℕ) (place : ℕ) (b : Batch) (rest : List ℕ) → InRange b → is_due due b.number ≡ true → more ≡ frame_of b.number b.body ++ rest → Fault due more place → ⊥
 no_fault due more place b rest range due_is is (inl f) = elim f.0.bad [
-  | inl short ↦ omega (arith, short, ap length is, length-append (framed b.number b.body) rest, length-framed b.number b.body)
+  | inl short ↦ omega (arith, short, ap length is, length-append (frame_of b.number b.body) rest, length-framed b.number b.body)
   | inr undue ↦ let number = ap number_of is ∙ number_is b.number b.body rest range.0 in clash (is_due due (number_of more)) undue (ap (λ (n : ℕ). is_due due n) number ∙ due_is)
 ]
   where
     clash : (b : Bool) → b ≡ false → b ≡ true → ⊥
     clash b p q = absurd (cc (p, q))
 no_fault due more place b rest range due_is is (inr f) =
-    let long : length more ≡ 12 + length b.body + length rest = omega (arith, ap length is, length-append (framed b.number b.body) rest, length-framed b.number b.body) in
+    let long : length more ≡ 12 + length b.body + length rest = omega (arith, ap length is, length-append (frame_of b.number b.body) rest, length-framed b.number b.body) in
     let size : size_of more ≡ length b.body = ap size_of is ∙ size_is b.number b.body rest range.1 in
     elim f.0.bad [
       | inl short ↦ omega (arith, short, long)
@@ -147,7 +148,7 @@ longer_no_fault bytes at m x s q runs l = elim q.fault [
   | inl none ↦ let a = l.rest in let b = none.0 in absurd cc
   | inr f ↦
       let whole : Runs m (q.batches ++ l.next ∷ l.more) = subst (λ (z : List Batch). Runs m z) l.whole runs in
-      let is : f.0 ≡ framed l.next.number l.next.body ++ (spell l.more ++ s) = (let a = f.1 in let b = l.rest in cc) in
+      let is : f.0 ≡ frame_of l.next.number l.next.body ++ (spell l.more ++ s) = (let a = f.1 in let b = l.rest in cc) in
       no_fault (due_of q.first q.batches) f.0 f.2.0 l.next (spell l.more ++ s) (short_next m q.batches l.next l.more whole) (due_next m q.first q.batches l.next l.more whole q.runs) is f.2.1
 ]
 
@@ -155,14 +156,14 @@ has_magic : (bytes rest : List ℕ) → bytes ≡ magic ++ rest → take 8 bytes
 has_magic bytes rest is other = other (ap (λ (l : List ℕ). take 8 l) is ∙ take_at magic rest 8 refl)
 
 pub not_both : (bytes : List ℕ) (x : List Batch) (at : ℕ) → InForce bytes x → Breaks bytes at → ⊥
-not_both bytes x at p (inl f) = has_magic bytes _ p.spelled f.0
-not_both bytes x at p (inr q) = elim (of_bytes bytes p.first q.first x q.batches (p.gate ∷ p.free) q.rest p.runs q.runs p.spelled q.spelled) [
+not_both bytes x at p (inl f) = has_magic bytes _ p.spells.spelled f.0
+not_both bytes x at p (inr q) = elim (of_bytes bytes p.first q.first x q.batches (p.spells.gate ∷ p.spells.free) q.rest p.runs q.runs p.spells.spelled q.spelled) [
   | inl both ↦ elim q.fault [
     | inl none ↦ let a = both.1 in let b = none.0 in absurd cc
-    | inr f ↦ let a = both.1 in let b = f.1 in p.shut cc
+    | inr f ↦ let a = both.1 in let b = f.1 in p.spells.shut cc
   ]
-  | inr (inl l) ↦ shut_ends x q.batches p.gate p.free q.rest p.shut l
-  | inr (inr l) ↦ longer_no_fault bytes at p.first x (p.gate ∷ p.free) q p.runs l
+  | inr (inl l) ↦ shut_ends x q.batches p.spells.gate p.spells.free q.rest p.spells.shut l
+  | inr (inr l) ↦ longer_no_fault bytes at p.first x (p.spells.gate ∷ p.spells.free) q p.runs l
 ]
 
 -- a fault behind one open gate has one place
@@ -196,8 +197,8 @@ one_place bytes m n (inr p) (inr q) = elim (of_bytes bytes p.first q.first p.bat
     size e = ap (λ (l : List Batch). length (spell l)) e
 
     same : p.batches ≡ q.batches → p.rest ≡ q.rest
-        → ((p.rest ≡ []) × (m ≡ 8 + length (spell p.batches))) ⊎ ((more : List ℕ) × (p.rest ≡ 1 ∷ more) × ((place : ℕ) × Fault (due_of p.first p.batches) more place × (m ≡ 9 + length (spell p.batches) + place)))
-        → ((q.rest ≡ []) × (n ≡ 8 + length (spell q.batches))) ⊎ ((more : List ℕ) × (q.rest ≡ 1 ∷ more) × ((place : ℕ) × Fault (due_of q.first q.batches) more place × (n ≡ 9 + length (spell q.batches) + place)))
+        → ((p.rest ≡ []) × (m ≡ length magic + length (spell p.batches))) ⊎ ((more : List ℕ) × (p.rest ≡ 1 ∷ more) × ((place : ℕ) × Fault (due_of p.first p.batches) more place × (m ≡ length magic + length (spell p.batches) + gate_size + place)))
+        → ((q.rest ≡ []) × (n ≡ length magic + length (spell q.batches))) ⊎ ((more : List ℕ) × (q.rest ≡ 1 ∷ more) × ((place : ℕ) × Fault (due_of q.first q.batches) more place × (n ≡ length magic + length (spell q.batches) + gate_size + place)))
         → m ≡ n
     same e r (inl f) (inl g) = omega (arith, f.1, g.1, size e)
     same e r (inl f) (inr g) = let a = f.0 in let b = g.1 in absurd cc

@@ -1,12 +1,13 @@
 -- Reading batch by batch.
-use Rattle.std.proofs.Common.{◌≡◌, ◌≢◌, ℕ, ◌+◌, ◌-◌, ◌≤◌, ◌<◌, ◌^◌, List, [], ◌∷◌, ◌++◌, length, drop, take, get_or, Option, Some, Bool, true, false, ◌==◌, ◌&&◌, nat_lt, sym, ◌∙◌, ap, subst, refl, arith, length-append, length-take, length-drop}
+use Rattle.std.proofs.Common.{◌≡◌, ◌≢◌, ℕ, ◌+◌, ◌-◌, ◌≤◌, ◌<◌, ◌^◌, List, [], ◌∷◌, ◌++◌, length, drop, take, get_or, Option, Some, Bool, true, false, ◌==◌, ◌&&◌, nat_le, sym, ◌∙◌, ap, subst, refl, arith, length-append, length-take, length-drop}
 use Rattle.std.specs.Option.{unwrap_or}
 use Rattle.std.proofs.lemmas.Bool.Decides.{nat_tests}
-use Rattle.std.proofs.lemmas.List.{drop-drop, drop_more, append-nil}
+use Rattle.std.proofs.lemmas.List.{drop-drop, drop_more}
 use Rattle.dl_journal.specs.declared.batch.Batch.{Batch}
-use Rattle.dl_journal.specs.Batches.{magic, framed, spell, Runs}
+use Rattle.dl_journal.specs.Limits.{journal_limit, last_number}
+use Rattle.dl_journal.specs.Batches.{magic, frame_of, spell, Runs, InRow}
 use Rattle.dl_journal.specs.Reading.{number_of, size_of, due_of, is_due, Framed, Holds}
-use Rattle.dl_journal.proofs.Bytes.{spell-push, runs-push, length-framed}
+use Rattle.dl_journal.proofs.Bytes.{spell-push, runs-push, length-framed, length-push}
 use Rattle.dl_journal.proofs.Framing.{AreBytes, unframed, small_size}
 
 pub both_hold : (a b : Bool) → (a && b) ≡ true → (a ≡ true) × (b ≡ true)
@@ -14,8 +15,8 @@ both_hold true true is = (refl, refl)
 both_hold true false is = absurd (cc is)
 both_hold false b is = absurd (cc is)
 
-pub less_is : (n m : ℕ) → nat_lt n m ≡ true → n < m
-less_is n m is = grind (arith, nat_tests)
+pub most_is : (n m : ℕ) → nat_le n m ≡ true → n ≤ m
+most_is n m is = grind (arith, nat_tests)
 
 pub same_is : (n m : ℕ) → (n == m) ≡ true → n ≡ m
 same_is n m is = grind (arith, nat_tests)
@@ -31,8 +32,8 @@ framed_is due more body number size are number_is size_is twelve fits body_is du
     record {
       number = due_is;
       short = omega (arith, len, small_size more are);
-      spelled = sym (unframed more are long) ∙ ap (λ (n : ℕ). framed n (take (size_of more) (drop 12 more)) ++ drop (12 + size_of more) more) (sym number_is)
-          ∙ ap (λ (l : List ℕ). framed number l ++ drop (12 + size_of more) more) (sym here) ∙ ap (λ (n : ℕ). framed number body ++ drop (12 + n) more) (sym len);
+      spelled = sym (unframed more are long) ∙ ap (λ (n : ℕ). frame_of n (take (size_of more) (drop 12 more)) ++ drop (12 + size_of more) more) (sym number_is)
+          ∙ ap (λ (l : List ℕ). frame_of number l ++ drop (12 + size_of more) more) (sym here) ∙ ap (λ (n : ℕ). frame_of number body ++ drop (12 + n) more) (sym len);
     }
 
 -- one batch more
@@ -51,16 +52,12 @@ pub record GoesOn (batches : List Batch) (b : Batch) : Type 0 where
   pub due : Some (b.number + 1) ≡ due_of first (batches ++ b ∷ [])
 
 pub go_on : (first : ℕ) (batches : List Batch) (b : Batch) → Runs first batches → is_due (due_of first batches) b.number ≡ true → length b.body < 2 ^ 32 → GoesOn batches b
-go_on first [] b runs due short = record { first = b.number; runs = (refl, (less_is b.number (2 ^ 63) due, (short, tt))); due = refl }
+go_on first [] b runs due short = record { first = b.number; runs = (refl, (most_is b.number last_number due, (short, tt))); due = refl }
 go_on first (a ∷ batches) b runs due short =
-    let two = both_hold (b.number == first + length (a ∷ batches)) (nat_lt b.number (2 ^ 63)) due in
+    let two = both_hold (b.number == first + length (a ∷ batches)) (nat_le b.number last_number) due in
     let number : b.number ≡ first + length (a ∷ batches) = same_is b.number (first + length (a ∷ batches)) two.0 in
     let next : b.number + 1 ≡ first + length (a ∷ (batches ++ b ∷ [])) = omega (arith, number, length-append batches (b ∷ [])) in
-    record { first = first; runs = runs-push first (a ∷ batches) b runs number (less_is b.number (2 ^ 63) two.1) short; due = ap (λ (n : ℕ). Some n) next }
-
-length-push : (batches : List Batch) (b : Batch) → length (spell (batches ++ b ∷ [])) ≡ length (spell batches) + (length b.body + 13)
-length-push batches b =
-    omega (arith, ap length (spell-push batches b []), ap length (append-nil (spell (batches ++ b ∷ []))), length-append (spell batches) (1 ∷ (framed b.number b.body ++ [])), length-append (framed b.number b.body) [], length-framed b.number b.body)
+    record { first = first; runs = runs-push first (a ∷ batches) b runs number (most_is b.number last_number two.1) short; due = ap (λ (n : ℕ). Some n) next }
 
 pub grown : (bytes : List ℕ) (at : ℕ) (due : Option ℕ) (first : ℕ) (batches : List Batch) (b : Batch) → Runs first batches → due ≡ due_of first batches → at ≡ 8 + length (spell batches) → at < length bytes → get_or bytes at 0 ≡ 1
     → bytes ≡ magic ++ (spell batches ++ drop at bytes) → Framed due (drop (at + 1) bytes) b → Grown bytes at batches b
@@ -69,24 +66,24 @@ grown bytes at due first batches b runs due_is place inside is_open spelled f =
     let back = drop (12 + length b.body) (drop (at + 1) bytes) in
     let jump : at + 1 + (12 + length b.body) ≡ at + (13 + length b.body) = omega arith in
     let back_is : back ≡ drop (at + (13 + length b.body)) bytes = drop-drop (12 + length b.body) (at + 1) bytes ∙ ap (λ (n : ℕ). drop n bytes) jump in
-    let here : drop at bytes ≡ 1 ∷ (framed b.number b.body ++ back) = drop_more bytes at 0 inside ∙ ap (λ (n : ℕ). n ∷ drop (at + 1) bytes) is_open ∙ ap (λ (l : List ℕ). 1 ∷ l) f.spelled in
+    let here : drop at bytes ≡ 1 ∷ (frame_of b.number b.body ++ back) = drop_more bytes at 0 inside ∙ ap (λ (n : ℕ). n ∷ drop (at + 1) bytes) is_open ∙ ap (λ (l : List ℕ). 1 ∷ l) f.spelled in
     record {
       first = on.first;
       runs = on.runs;
       due = on.due;
       place = omega (arith, place, length-push batches b);
-      inside = omega (arith, inside, ap length f.spelled, length-append (framed b.number b.body) back, length-framed b.number b.body, length-drop (at + 1) bytes);
+      inside = omega (arith, inside, ap length f.spelled, length-append (frame_of b.number b.body) back, length-framed b.number b.body, length-drop (at + 1) bytes);
       spelled = spelled ∙ ap (λ (l : List ℕ). magic ++ (spell batches ++ l)) here ∙ ap (λ (l : List ℕ). magic ++ l) (sym (spell-push batches b back)) ∙ ap (λ (l : List ℕ). magic ++ (spell (batches ++ b ∷ []) ++ l)) back_is;
     }
 
 -- behind the last batch a shut gate
 pub holds : (bytes : List ℕ) (at next : ℕ) (due : Option ℕ) (first : ℕ) (batches : List Batch) → Runs first batches → due ≡ due_of first batches → at ≡ 8 + length (spell batches) → at < length bytes → get_or bytes at 0 ≢ 1
-    → bytes ≡ magic ++ (spell batches ++ drop at bytes) → next ≡ unwrap_or due 0 → Holds bytes batches at next
-holds bytes at next due first batches runs due_is place inside shut spelled next_is = go batches runs place (next_is ∙ ap (λ (d : Option ℕ). unwrap_or d 0) due_is) whole
+    → bytes ≡ magic ++ (spell batches ++ drop at bytes) → next ≡ unwrap_or due 0 → length bytes ≤ journal_limit → Holds bytes batches at next
+holds bytes at next due first batches runs due_is place inside shut spelled next_is most = record {
+  in_row = row batches runs place (next_is ∙ ap (λ (d : Option ℕ). unwrap_or d 0) due_is);
+  spells = record { gate = get_or bytes at 0; shut = shut; free = drop (at + 1) bytes; spelled = spelled ∙ ap (λ (l : List ℕ). magic ++ (spell batches ++ l)) (drop_more bytes at 0 inside) };
+}
   where
-    whole : bytes ≡ magic ++ (spell batches ++ get_or bytes at 0 ∷ drop (at + 1) bytes)
-    whole = spelled ∙ ap (λ (l : List ℕ). magic ++ (spell batches ++ l)) (drop_more bytes at 0 inside)
-
-    go : (bs : List Batch) → Runs first bs → at ≡ 8 + length (spell bs) → next ≡ unwrap_or (due_of first bs) 0 → bytes ≡ magic ++ (spell bs ++ get_or bytes at 0 ∷ drop (at + 1) bytes) → Holds bytes bs at next
-    go [] runs place is whole = record { first = 0; runs = tt; is_next = is; gate = get_or bytes at 0; shut = shut; free = drop (at + 1) bytes; spelled = whole; place = place }
-    go (b ∷ bs) runs place is whole = record { first = first; runs = runs; is_next = is; gate = get_or bytes at 0; shut = shut; free = drop (at + 1) bytes; spelled = whole; place = place }
+    row : (bs : List Batch) → Runs first bs → at ≡ 8 + length (spell bs) → next ≡ unwrap_or (due_of first bs) 0 → InRow at next bs
+    row [] runs place is = record { first = 0; runs = tt; follows = is; place = place; below = omega (arith, inside, most) }
+    row (b ∷ bs) runs place is = record { first = first; runs = runs; follows = is; place = place; below = omega (arith, inside, most) }

@@ -1,22 +1,24 @@
 -- A sync, the size, and a read of all.
-use Rattle.std.proofs.Common.{◌≡◌, inl, inr, ℕ, ◌≤◌, List, [], ◌∷◌, ◌++◌, length, take, drop, Some, None, Vec, Result, Ok, Err, sym, ◌∙◌, ap, subst, arith}
+use Rattle.std.proofs.Common.{◌≡◌, inl, inr, ℕ, ◌≤◌, ◌<◌, List, [], ◌∷◌, ◌++◌, length, take, drop, Some, None, Vec, Result, Ok, Err, sym, ◌∙◌, subst, arith}
 use Rattle.std.specs.declared.alloc.Global.{Global}
-use Rattle.std.proofs.lemmas.List.{take_all, append-nil}
+use Rattle.std.proofs.lemmas.List.{take_all}
 use Rattle.dl_depot.specs.View.{View, Keeps}
 use Rattle.dl_depot.specs.Device.{Synced, Sized, Read, Looks, Rose}
 use Rattle.dl_depot.specs.declared.device_call.DeviceCall.{DeviceCall}
 use Rattle.dl_depot.specs.declared.device_call.DeviceCall.TheVariants.{Sync}
 use Rattle.dl_depot.specs.declared.device_fault.DeviceFault.{DeviceFault}
 use Rattle.dl_depot.proofs.Moments.{keeps_trans, ordered}
-use Rattle.dl_journal.specs.declared.load_fault.LoadFault.TheVariants.{Device, NoMemory}
-use Rattle.dl_journal.specs.Stored.{Fronts}
-use Rattle.dl_journal.specs.Load.{OnDisk, Fetched}
-use Rattle.dl_journal.proofs.Committing.{some_inj}
-use Rattle.dl_journal.proofs.Through.{rose_on}
+use Rattle.dl_journal.specs.declared.load_fault.LoadFault.TheVariants.{Device, TooLarge, NoMemory}
+use Rattle.dl_journal.specs.Limits.{journal_limit}
+use Rattle.dl_journal.specs.Settled.{OnDisk}
+use Rattle.dl_journal.specs.Load.{Fetched}
+use Rattle.dl_journal.proofs.Staging.{some_inj}
+use Rattle.dl_journal.proofs.Through.{rose_on, front_one}
 
 -- after a sync that succeeded, and calls that only look
 pub record Reached (a b : View) (file : ℕ) : Type 0 where
   pub keeps : Keeps file a b
+  pub same_count : b.faults file ≡ a.faults file
   pub images : (t : ℕ) (c : List ℕ) → a.moment ≤ t → t ≤ b.moment → b.image file t c → a.image file a.moment c
   pub disk : (was : List ℕ) → a.shown file ≡ Some was → OnDisk b file was
   pub told : (calls : List DeviceCall) → a.calls file ≡ Some calls → b.calls file ≡ Some (calls ++ Sync ∷ [])
@@ -28,6 +30,7 @@ synced_images a m file result s t x from to image = let left = s.writes.images t
 pub reached : (a m : View) (file : ℕ) (v : Unit {0}) → Synced a m file (Ok v) → Reached a m file
 reached a m file v s = record {
   keeps = s.writes.keeps;
+  same_count = s.writes.counts.passed;
   images = synced_images a m file (Ok v) s;
   disk = λ was is.
       let here : m.shown file ≡ Some was = s.writes.shown was is in
@@ -36,13 +39,17 @@ reached a m file v s = record {
   unset = s.writes.unset;
 }
 
-pub looks_on : (a b c : View) (file : ℕ) → Reached a b file → Looks b c file → Reached a c file
-looks_on a b c file r looks = record {
+looks_images : (a b c : View) (file : ℕ) → Reached a b file → Looks b c file → (t : ℕ) (x : List ℕ) → a.moment ≤ t → t ≤ c.moment → c.image file t x → a.image file a.moment x
+looks_images a b c file r looks t x from to image = elim (ordered t b.moment) [
+  | inl early ↦ r.images t x from early ((looks.keeps.past file t x early).0 image)
+  | inr late ↦ r.images b.moment x r.keeps.later (omega arith) ((looks.images t x (omega (arith, late)) to).0 image)
+]
+
+pub looks_on : (a b c : View) (file : ℕ) → Reached a b file → Looks b c file → c.faults file ≡ b.faults file → Reached a c file
+looks_on a b c file r looks same = record {
   keeps = keeps_trans file a b c r.keeps looks.keeps;
-  images = λ t x from to image. elim (ordered t b.moment) [
-    | inl early ↦ r.images t x from early ((looks.keeps.past file t x early).0 image)
-    | inr late ↦ r.images b.moment x r.keeps.later (omega arith) ((looks.images t x (omega (arith, late)) to).0 image)
-  ];
+  same_count = same ∙ r.same_count;
+  images = looks_images a b c file r looks;
   disk = λ was is.
       let before = r.disk was is in
       record {
@@ -54,77 +61,95 @@ looks_on a b c file r looks = record {
   unset = λ none. looks.same_fuse ∙ r.unset none;
 }
 
-fronts_of : (a b : View) (file : ℕ) → Reached a b file → Fronts a b file (Sync ∷ [])
-fronts_of a b file r calls are = (1, r.told calls are)
-
 -- the sync failed
 pub sync_failed : (a b : View) (file : ℕ) (e : DeviceFault) → Synced a b file (Err e) → Fetched a b file (Err Device)
 sync_failed a b file e s = record {
-  keeps = s.writes.keeps;
-  images = synced_images a b file (Err e) s;
+  reads = record {
+    keeps = s.writes.keeps;
+    images = synced_images a b file (Err e) s;
+    counts = s.writes.counts.failed;
+    calls = record {
+      told = λ calls are. tt;
+      fronts = λ calls are. front_one b file Sync [] calls (s.writes.maybe_told calls are);
+      unset = s.writes.unset;
+    };
+    too_large = λ n is. absurd (cc is);
+    no_memory = λ is. absurd (cc is);
+  };
   most = tt;
   bytes = λ was shown. tt;
-  device = λ is. s.writes.failed;
-  too_large = λ n is. absurd (cc is);
-  no_memory = λ is. absurd (cc is);
   not_damaged = λ at is. cc is;
-  told = λ calls are. tt;
-  fronts = λ calls are. elim (s.writes.maybe_told calls are) [
-    | inl none ↦ (0, none ∙ sym (ap (λ (l : List DeviceCall). Some l) (append-nil calls)))
-    | inr one ↦ (1, one)
-  ];
-  unset = s.writes.unset;
 }
 
 -- a later call failed
 pub look_failed : (a b c : View) (file : ℕ) → Reached a b file → Looks b c file → Rose (b.faults file) (c.faults file) → Fetched a c file (Err Device)
-look_failed a b c file r looks rose = let on = looks_on a b c file r looks in record {
-  keeps = on.keeps;
-  images = on.images;
+look_failed a b c file r looks rose = record {
+  reads = record {
+    keeps = keeps_trans file a b c r.keeps looks.keeps;
+    images = looks_images a b c file r looks;
+    counts = rose_on _ _ _ r.same_count rose;
+    calls = record {
+      told = λ calls are. tt;
+      fronts = λ calls are. (1, looks.same_calls ∙ r.told calls are);
+      unset = λ none. looks.same_fuse ∙ r.unset none;
+    };
+    too_large = λ n is. absurd (cc is);
+    no_memory = λ is. absurd (cc is);
+  };
   most = tt;
   bytes = λ was shown. tt;
-  device = λ is. rose_on _ _ _ r.keeps.no_fewer rose;
-  too_large = λ n is. absurd (cc is);
-  no_memory = λ is. absurd (cc is);
   not_damaged = λ at is. cc is;
-  told = λ calls are. tt;
-  fronts = fronts_of a c file on;
-  unset = on.unset;
+}
+
+-- the file has more bytes than a journal may have
+pub too_long : (a m b : View) (file size : ℕ) → Reached a m file → Sized m b file (Ok size) → journal_limit < size → Fetched a b file (Err (TooLarge size))
+too_long a m b file size r z more = let on = looks_on a m b file r z.looks z.counts.passed in record {
+  reads = record {
+    keeps = on.keeps;
+    images = on.images;
+    counts = on.same_count;
+    calls = record { told = λ calls are. tt; fronts = λ calls are. (1, on.told calls are); unset = on.unset };
+    too_large = λ n is. let same : n ≡ size = cc is in (omega (arith, same, more), λ was shown. same ∙ z.size was (r.disk was shown).shown);
+    no_memory = λ is. absurd (cc is);
+  };
+  most = tt;
+  bytes = λ was shown. tt;
+  not_damaged = λ at is. cc is;
 }
 
 -- memory ran out
-pub no_room : (a m b : View) (file size : ℕ) → Reached a m file → Sized m b file (Ok size) → size ≤ 268435456 → Fetched a b file (Err NoMemory)
-no_room a m b file size r z most = let on = looks_on a m b file r z.looks in record {
-  keeps = on.keeps;
-  images = on.images;
+pub no_room : (a m b : View) (file size : ℕ) → Reached a m file → Sized m b file (Ok size) → size ≤ journal_limit → Fetched a b file (Err NoMemory)
+no_room a m b file size r z most = let on = looks_on a m b file r z.looks z.counts.passed in record {
+  reads = record {
+    keeps = on.keeps;
+    images = on.images;
+    counts = on.same_count;
+    calls = record { told = λ calls are. tt; fronts = λ calls are. (1, on.told calls are); unset = on.unset };
+    too_large = λ n is. absurd (cc is);
+    no_memory = λ is was shown. let n = z.size was (r.disk was shown).shown in omega (arith, n, most);
+  };
   most = tt;
   bytes = λ was shown. tt;
-  device = λ is. absurd (cc is);
-  too_large = λ n is. absurd (cc is);
-  no_memory = λ is was shown. let n = z.size was (r.disk was shown).shown in omega (arith, n, most);
   not_damaged = λ at is. cc is;
-  told = λ calls are. tt;
-  fronts = fronts_of a b file on;
-  unset = on.unset;
 }
 
 -- all was read
-pub fetched : (a m n b : View) (file size count : ℕ) (into : List ℕ) (vec : Vec ℕ Global) → Reached a m file → Sized m n file (Ok size) → Read n b file 0 into (Ok count) → length into ≡ size → size ≤ 268435456 → vec.items ≡ take count into → length vec.items ≤ size
+pub fetched : (a m n b : View) (file size count : ℕ) (into : List ℕ) (vec : Vec ℕ Global) → Reached a m file → Sized m n file (Ok size) → Read n b file 0 into (Ok count) → length into ≡ size → size ≤ journal_limit → vec.items ≡ take count into → length vec.items ≤ size
     → Fetched a b file (Ok vec)
-fetched a m n b file size count into vec r z l long most is short = let on = looks_on a n b file (looks_on a m n file r z.looks) l.looks in record {
-  keeps = on.keeps;
-  images = on.images;
+fetched a m n b file size count into vec r z l long most is short = let on = looks_on a n b file (looks_on a m n file r z.looks z.counts.passed) l.looks l.counts.passed in record {
+  reads = record {
+    keeps = on.keeps;
+    images = on.images;
+    counts = on.same_count;
+    calls = record { told = on.told; fronts = λ calls are. (1, on.told calls are); unset = on.unset };
+    too_large = λ k is. absurd (cc is);
+    no_memory = λ is. absurd (cc is);
+  };
   most = omega (arith, most, short);
   bytes = λ was shown.
       let still : n.shown file ≡ Some was = z.looks.same_shown ∙ (r.disk was shown).shown in
       let given = l.bytes was still in
       let all : count ≡ length was = omega (arith, given.whole, long, z.size was (r.disk was shown).shown) in
       (is ∙ given.same ∙ take_all count (drop 0 was) (omega (arith, all)), on.disk was shown);
-  device = λ is. absurd (cc is);
-  too_large = λ k is. absurd (cc is);
-  no_memory = λ is. absurd (cc is);
   not_damaged = λ at is. cc is;
-  told = λ calls are. on.told calls are;
-  fronts = fronts_of a b file on;
-  unset = on.unset;
 }

@@ -1,7 +1,7 @@
--- When a journal stands for batches, and what its calls do.
-use Rattle.std.specs.Prelude.{◌≡◌, ◌≢◌, ◌+◌, ◌-◌, ◌^◌, ℕ, suc, List, [], ◌∷◌, ◌++◌, length, take, drop, Some, None, Bool, true, false, cond, nat_lt, Result, OnOk, OnErr, IsErrOf, IfOk, ◌↔◌}
+-- What the calls of a journal do.
+use Rattle.std.specs.Prelude.{◌≡◌, ◌+◌, ◌-◌, ℕ, suc, List, [], ◌∷◌, ◌++◌, length, take, drop, Some, Bool, true, false, cond, nat_le, Result, Ok, Err, OnOk, IsErrOf, IfOk, MatchResult, ◌↔◌}
 use Rattle.dl_depot.specs.View.{View, Keeps, LeavesOnly}
-use Rattle.dl_depot.specs.Device.{Rose}
+use Rattle.dl_depot.specs.Device.{Rose, CountsFault}
 use Rattle.dl_depot.specs.declared.device_call.DeviceCall.{DeviceCall}
 use Rattle.dl_depot.specs.declared.device_call.DeviceCall.TheVariants.{Write, Sync}
 use Rattle.dl_depot.specs.declared.device_fault.DeviceFault.{DeviceFault}
@@ -11,75 +11,69 @@ use Rattle.dl_depot.specs.declared.fuse.Outcome.TheVariants.{After}
 use Rattle.dl_journal.specs.declared.batch.Batch.{Batch}
 use Rattle.dl_journal.specs.declared.commit_fault.CommitFault.{CommitFault}
 use Rattle.dl_journal.specs.declared.commit_fault.CommitFault.TheVariants.{Device, Failed}
+use Rattle.dl_journal.specs.Limits.{journal_limit, last_number, head_size, gate_size, around_body}
 use Rattle.dl_journal.specs.State.{JournalState}
-use Rattle.dl_journal.specs.Batches.{magic, spell, Runs, InForce, BeforeOrAfter}
-use Rattle.dl_journal.specs.Stored.{Spends, Fronts}
+use Rattle.dl_journal.specs.Batches.{magic, InRow, IsJournal, BeforeOrAfter}
+use Rattle.dl_journal.specs.Calls.{MakesCalls, Spends, StaysInLimit, store_calls}
+use Rattle.dl_journal.specs.Settled.{Settled, Stands}
 
--- The file shows these bytes, a stop leaves them alone, and they hold these batches in force; the next gate is shut.
-pub record Settled (v : View) (j : JournalState) (bytes : List ℕ) (batches : List Batch) : Type 0 where
-  pub shown : v.shown j.file ≡ Some bytes
-  pub only : (c : List ℕ) → v.image j.file v.moment c → c ≡ bytes
-  pub last : v.synced j.file ≡ Some bytes
-  pub first : ℕ
-  pub runs : Runs first batches
-  pub next : j.next ≡ first + length batches
-  pub gate : ℕ
-  pub shut : gate ≢ 1
-  pub free : List ℕ
-  pub spelled : bytes ≡ magic ++ (spell batches ++ gate ∷ free)
-  pub place : j.gate ≡ 8 + length (spell batches)
-
--- where the bytes are told and no commit has failed, the journal stands for batches of its file
-abbrev pub Stands : View → JournalState → Type 0
-Stands v j = j.failed ≡ false → (shown : List ℕ) → v.shown j.file ≡ Some shown → (batches : List Batch) × Settled v j shown batches
-
--- the body of a frame: all but its first 12 bytes and its last one
+-- the body of a frame: all but its head and the gate behind it
 abbrev pub body_of : List ℕ → List ℕ
-body_of frame = take (length frame - 13) (drop 12 frame)
+body_of frame = take (length frame - around_body) (drop head_size frame)
 
 -- the batch that a body makes
 abbrev pub batch_of : JournalState → List ℕ → Batch
 batch_of j body = record { number = j.next; body = body }
 
--- the longest body for which the file stays within 268435456 bytes, where the next number is below 2 ^ 63
+-- the longest body for which the file stays within its limit; 0 where the next number would be too great
 abbrev pub spare_of : JournalState → ℕ
-spare_of j = cond (nat_lt j.next (2 ^ 63)) (268435456 - 14 - j.gate) 0
+spare_of j = cond (nat_le j.next last_number) (journal_limit - (j.gate + gate_size + around_body)) 0
+
+-- the place in the file at which the next body begins
+abbrev pub body_place : JournalState → ℕ
+body_place j = j.gate + gate_size + head_size
+
+-- the journal with this body committed
+abbrev pub state_after : JournalState → List ℕ → JournalState
+state_after j body = record { file = j.file; gate = j.gate + (length body + around_body); next = j.next + 1; failed = false }
 
 -- the writing calls of a commit
 abbrev pub commit_calls : JournalState → List ℕ → List DeviceCall
-commit_calls j body = Write (j.gate + 1) (length body + 13) ∷ Sync ∷ Write j.gate 1 ∷ Sync ∷ []
+commit_calls j body = Write (j.gate + gate_size) (length body + around_body) ∷ Sync ∷ Write j.gate gate_size ∷ Sync ∷ []
 
--- the file shows bytes with these batches in force
+-- the file shows a journal of these batches
 abbrev pub Shows : View → ℕ → List Batch → Type 0
-Shows new file batches = (bytes : List ℕ) → new.shown file ≡ Some bytes → InForce bytes batches
+Shows new file batches = (bytes : List ℕ) → new.shown file ≡ Some bytes → IsJournal bytes batches
 
 -- a stop of the third or fourth call with all written has left an open gate
-abbrev pub opens : Outcome → ℕ → Bool
-opens After (suc (suc left)) = true
-opens outcome left = false
+abbrev pub is_gate_open : Outcome → ℕ → Bool
+is_gate_open After (suc (suc left)) = true
+is_gate_open outcome left = false
+
+-- only a fault of the device raises the count of faults
+abbrev pub CountsCommit : ℕ → ℕ → Result (Unit {0}) CommitFault → Type 0
+CountsCommit before now (Ok u) = now ≡ before
+CountsCommit before now (Err Device) = Rose before now
+CountsCommit before now (Err Failed) = now ≡ before
 
 -- what `commit` does
 pub record Committed (old new : View) (j k : JournalState) (body : List ℕ) (result : Result (Unit {0}) CommitFault) : Type 0 where
   pub keeps : Keeps j.file old new
-  pub file : k.file ≡ j.file
-  -- at each moment each image has the batches from before in force, with the new one or without
+  -- at each moment each image is a journal of the batches from before, with the new one or without
   pub any_moment : (bytes : List ℕ) (batches : List Batch) → Settled old j bytes batches → LeavesOnly j.file old new (BeforeOrAfter batches (batch_of j body))
   -- and then each image has the new one
   pub ok : (bytes : List ℕ) (batches : List Batch) → Settled old j bytes batches → OnOk result ((now : List ℕ) × Settled new k now (batches ++ batch_of j body ∷ []))
-  pub next : OnOk result (k.next ≡ j.next + 1)
-  pub gate : OnOk result (k.gate ≡ j.gate + (length body + 13))
-  pub device : IsErrOf result Device → Rose (old.faults j.file) (new.faults j.file)
+  -- the journal goes on behind the new batch, also where bytes aren't told
+  pub in_row : (batches : List Batch) → InRow j.gate j.next batches → OnOk result (InRow k.gate k.next (batches ++ batch_of j body ∷ []))
+  pub stands : Stands old j → Stands new k
+  pub file : k.file ≡ j.file
+  pub state : MatchResult result (λ _. k ≡ state_after j body) (λ _. k ≡ record j { failed = true })
   pub failed : IsErrOf result Failed ↔ (j.failed ≡ true)
-  pub fails : OnErr result (k.failed ≡ true)
-  pub works : OnOk result (k.failed ≡ false)
-  pub stays : OnErr result (k ≡ record j { failed = true })
-  -- its writing calls, and those of a commit that fails
-  pub told : (calls : List DeviceCall) → old.calls j.file ≡ Some calls → OnOk result (new.calls j.file ≡ Some (calls ++ commit_calls j body))
-  pub fronts : Fronts old new j.file (commit_calls j body)
-  pub unset : old.fuse j.file ≡ Some None → new.fuse j.file ≡ Some None
+  pub counts : CountsCommit (old.faults j.file) (new.faults j.file) result
+  pub calls : MakesCalls old new j.file (commit_calls j body) result
   -- where a fuse stops it, the file shows the new batch exactly where its gate was written
   pub spends : (f : Fuse) (bytes : List ℕ) (batches : List Batch) → old.fuse j.file ≡ Some (Some f) → Settled old j bytes batches
-      → Spends new j.file 4 (λ outcome left. Shows new j.file (cond (opens outcome left) (batches ++ batch_of j body ∷ []) batches)) f result
+      → Spends old new j.file (commit_calls j body) (λ outcome left. Shows new j.file (cond (is_gate_open outcome left) (batches ++ batch_of j body ∷ []) batches)) f result
 
 -- the file is empty, where its bytes are told
 abbrev pub IsEmpty : View → ℕ → Type 0
@@ -90,16 +84,16 @@ abbrev pub start : List ℕ
 start = magic ++ 0 ∷ []
 
 -- a new journal in this file
-abbrev pub fresh : ℕ → JournalState
-fresh file = record { file = file; gate = 8; next = 0; failed = false }
+abbrev pub new_journal : ℕ → JournalState
+new_journal file = record { file = file; gate = length magic; next = 0; failed = false }
 
 -- what `make` does
 pub record Made (old new : View) (file : ℕ) (result : Result JournalState DeviceFault) : Type 0 where
   pub keeps : Keeps file old new
-  pub state : IfOk result (λ j. j ≡ fresh file)
-  pub settled : (was : List ℕ) → old.shown file ≡ Some was → OnOk result (Settled new (fresh file) start [])
-  pub stands : OnOk result (Stands new (fresh file))
-  pub failed : OnErr result (Rose (old.faults file) (new.faults file))
-  pub told : (calls : List DeviceCall) → old.calls file ≡ Some calls → OnOk result (new.calls file ≡ Some (calls ++ Write 0 9 ∷ Sync ∷ []))
-  pub fronts : Fronts old new file (Write 0 9 ∷ Sync ∷ [])
-  pub unset : old.fuse file ≡ Some None → new.fuse file ≡ Some None
+  pub in_limit : StaysInLimit file old new
+  pub state : IfOk result (λ j. j ≡ new_journal file)
+  pub settled : (was : List ℕ) → old.shown file ≡ Some was → OnOk result (Settled new (new_journal file) start [])
+  pub stands : OnOk result (Stands new (new_journal file))
+  pub in_row : OnOk result (InRow (length magic) 0 [])
+  pub counts : CountsFault (old.faults file) (new.faults file) result
+  pub calls : MakesCalls old new file (store_calls 0 start) result

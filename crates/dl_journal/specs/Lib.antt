@@ -1,8 +1,10 @@
+pub mod Limits
 pub mod State
 pub mod Batches
-pub mod Stored
+pub mod Calls
+pub mod Settled
 pub mod Commits
 pub mod Reading
 pub mod Parsed
 pub mod Load
-pub mod OneReading
+pub mod Laws

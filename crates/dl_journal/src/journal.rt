@@ -1,21 +1,16 @@
-ghost use Rattle.std.specs.Prelude.{◌≡◌, ◌≤◌, ◌<◌, ◌-◌, ◌++◌, ◌^◌, [], ◌∷◌, length, false};
-ghost use Rattle.dl_journal.specs.Batches.{framed};
-ghost use Rattle.dl_journal.specs.Commits.{IsEmpty, Made, Stands, Committed, body_of, spare_of};
+ghost use Rattle.std.specs.Prelude.{◌≡◌, ◌≤◌, ◌<◌, ◌-◌, ◌++◌, ◌^◌, [], ◌∷◌, length, true, false};
+ghost use Rattle.dl_journal.specs.Limits.{journal_limit, around_body};
+ghost use Rattle.dl_journal.specs.Batches.{frame_of};
+ghost use Rattle.dl_journal.specs.Settled.{Stands};
+ghost use Rattle.dl_journal.specs.Commits.{IsEmpty, Made, Committed, body_of, spare_of, body_place};
 
 use crate::commit_fault::CommitFault;
+use crate::layout::{AROUND, GATE, HEAD, LAST_NUMBER, LIMIT, MAGIC, NUMBER, START};
 use crate::write_through::store;
 use dl_depot::depot::Depot;
 use dl_depot::device_fault::DeviceFault;
 use dl_depot::file_id::FileId;
 use std::marker::Model;
-
-/// The greatest size of a journal's file in bytes.
-pub const LIMIT: u64 = 268_435_456;
-
-const GREATEST: u64 = 9_223_372_036_854_775_807;
-
-// DLJRNL01 and a shut gate.
-const START: [u8; 9] = [68, 76, 74, 82, 78, 76, 48, 49, 0];
 
 /// A journal in a file of a depot, after BookKeeper's: each commit is on the device before it answers ("Bookies: the
 /// journal" in its documentation). The file has the magic `DLJRNL01`, then for each batch in force a gate 1, a number of
@@ -33,29 +28,34 @@ pub struct Journal {
 }
 
 impl Model for Journal {
+    ghost use Rattle.std.specs.Prelude.{◌<◌};
+    ghost use Rattle.dl_journal.specs.Limits.{journal_limit};
     ghost use Rattle.dl_journal.specs.State.{JournalState};
 
     ghost Value = { JournalState };
 
     ghost view = { λ j. record { file = j.file; gate = j.gate; next = j.next; failed = j.failed } };
+
+    ghost invariant = { λ j. j.gate < journal_limit };
 }
 
 // Puts number and length before the body, and a shut gate behind it.
 fn fill(frame: &mut [u8], number: u64)
-    requires some { 13 < length frame.old }
+    requires some { around_body < length frame.old }
     requires fits { length frame.old < 2 ^ 32 }
-    ensures { frame.new ≡ framed number (body_of frame.old) ++ 0 ∷ [] }
+    ensures { frame.new ≡ frame_of number (body_of frame.old) ++ 0 ∷ [] }
 {
-    let last = frame.len() - 1;
-    let body = (last - 12) as u32;
-    frame[..8].copy_from_slice(&number.to_be_bytes());
-    frame[8..12].copy_from_slice(&body.to_be_bytes());
+    let last = frame.len() - GATE;
+    let body = (last - HEAD) as u32;
+    frame[..NUMBER].copy_from_slice(&number.to_be_bytes());
+    frame[NUMBER..HEAD].copy_from_slice(&body.to_be_bytes());
     frame[last] = 0;
 }
 
 impl Journal {
     // A journal of this file, with the place of its shut gate and the number of the next batch.
     pub(crate) fn at(file: FileId, gate: u64, next: u64) -> Journal
+        requires { gate < journal_limit }
         ensures { result ≡ record { file = file; gate = gate; next = next; failed = false } }
     {
         Journal {
@@ -75,7 +75,7 @@ impl Journal {
         store(depot, file, 0, &START)?;
         Ok(Journal {
             file,
-            gate: 8,
+            gate: MAGIC as u64,
             next: 0,
             failed: false,
         })
@@ -86,10 +86,18 @@ impl Journal {
     pub fn spare(&self) -> u64
         ensures { result ≡ spare_of self.now }
     {
-        if self.next > GREATEST {
+        if self.next > LAST_NUMBER {
             return 0;
         }
-        LIMIT.saturating_sub(14).saturating_sub(self.gate)
+        LIMIT.saturating_sub(self.gate + (GATE + AROUND) as u64)
+    }
+
+    /// The place in the file at which the body of the next commit will begin: behind the shut gate, and behind its number
+    /// and its length.
+    pub fn body_place(&self) -> u64
+        ensures { result ≡ body_place self.now }
+    {
+        self.gate + (GATE + HEAD) as u64
     }
 
     /// Commits the body of a frame: all but its first 12 bytes and its last one, into which the call puts the number, the
@@ -97,18 +105,20 @@ impl Journal {
     /// writes is synced before the next step. It takes no memory.
     ///
     /// `Device` comes only where the file's count of faults rose, or stands at the greatest u64: the batch may be in
-    /// force or not, and the value commits no more. `Failed` comes exactly where an earlier commit of this value failed.
+    /// force or not, and the value commits no more. `Failed` comes exactly where an earlier commit of this value failed,
+    /// and then no call is made. Whatever comes, the file stays within its limit.
     pub fn commit<D: Depot>(&mut self, depot: &mut D, frame: &mut [u8]) -> Result<(), CommitFault>
         requires stands { Stands (D.view depot.old) self.old }
-        requires body { 13 < length frame.old }
-        requires room { length frame.old - 13 ≤ spare_of self.old }
-        ensures { Committed (D.view depot.old) (D.view depot.new) self.old self.new (body_of frame.old) result }
+        requires body { around_body < length frame.old }
+        requires room { length frame.old - around_body ≤ spare_of self.old }
+        ensures committed { Committed (D.view depot.old) (D.view depot.new) self.old self.new (body_of frame.old) result }
+        ensures idle { self.old.failed ≡ true → depot.new ≡ depot.old }
     {
         if self.failed {
             return Err(CommitFault::Failed);
         }
         fill(frame, self.next);
-        if let Err(_) = store(depot, self.file, self.gate + 1, frame) {
+        if let Err(_) = store(depot, self.file, self.gate + GATE as u64, frame) {
             self.failed = true;
             return Err(CommitFault::Device);
         }

@@ -5,7 +5,8 @@
 pub mod batch;
 pub mod commit_fault;
 pub mod journal;
-pub mod law;
+pub mod laws;
+pub mod layout;
 pub mod load;
 pub mod load_fault;
 pub mod parse;

@@ -2,7 +2,8 @@ ghost use Rattle.std.specs.Prelude.{◌≡◌, IfOk, length};
 ghost use Rattle.dl_journal.specs.Load.{Fetched, Loaded};
 
 use crate::batch::Batch;
-use crate::journal::{Journal, LIMIT};
+use crate::journal::Journal;
+use crate::layout::LIMIT;
 use crate::load_fault::LoadFault;
 use crate::parse::parse;
 use dl_depot::depot::Depot;
@@ -43,28 +44,30 @@ pub fn fetch<D: Depot>(alloc: Global, depot: &mut D, file: FileId) -> Result<Vec
     }
 }
 
-/// Loads the journal in a file: syncs it, reads it, and gives the value that goes on with it, and the batches in force.
-/// Where no batch is, the next one will have the number 0. It is meant for a start after a stop.
-///
-/// `TooLarge` comes exactly where the file has more than 268,435,456 bytes, `Damaged` exactly where it has no more and
-/// its bytes break the layout, with the place of the first part that does; `Device` only where the file's count of
-/// faults rose, or stands at the greatest u64.
-pub fn load<D: Depot>(
-    alloc: Global,
-    depot: &mut D,
-    file: FileId,
-) -> Result<(Journal, Vec<Batch>), LoadFault>
-    ensures { Loaded (D.view depot.old) (D.view depot.new) file result }
-{
-    let bytes = match fetch(alloc, depot, file) {
-        Ok(bytes) => bytes,
-        Err(fault) => return Err(fault),
-    };
-    match parse(alloc, &bytes) {
-        Ok(contents) => {
-            let journal = Journal::at(file, contents.gate, contents.next);
-            Ok((journal, contents.batches))
+impl Journal {
+    /// Loads the journal in a file: syncs it, reads it, and gives the value that goes on with it, and the batches in
+    /// force. Where no batch is, the next one will have the number 0. It is meant for a start after a stop.
+    ///
+    /// `TooLarge` comes exactly where the file has more than 268,435,456 bytes, `Damaged` exactly where it has no more and
+    /// its bytes break the layout, with the place of the first part that does; `Device` only where the file's count of
+    /// faults rose, or stands at the greatest u64; `NoMemory` where memory runs out.
+    pub fn load<D: Depot>(
+        alloc: Global,
+        depot: &mut D,
+        file: FileId,
+    ) -> Result<(Journal, Vec<Batch>), LoadFault>
+        ensures { Loaded (D.view depot.old) (D.view depot.new) file result }
+    {
+        let bytes = match fetch(alloc, depot, file) {
+            Ok(bytes) => bytes,
+            Err(fault) => return Err(fault),
+        };
+        match parse(alloc, &bytes) {
+            Ok(contents) => {
+                let journal = Journal::at(file, contents.gate, contents.next);
+                Ok((journal, contents.batches))
+            }
+            Err(fault) => Err(fault),
         }
-        Err(fault) => Err(fault),
     }
 }

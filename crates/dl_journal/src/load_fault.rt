@@ -1,6 +1,7 @@
 ghost use Rattle.std.specs.Prelude.{◌≡◌};
 ghost use Rattle.dl_journal.specs.declared.load_fault.LoadFault.TheVariants.{NoMemory};
 
+use dl_types::memory;
 use std::alloc::{AllocError, AllocFailed};
 use thiserror::Error;
 
@@ -33,6 +34,14 @@ impl<T: Drop> From<AllocFailed<T>> for LoadFault {
     ghost from_gives = { λ _ e. e ≡ NoMemory };
 
     fn from(_error: AllocFailed<T>) -> LoadFault {
+        LoadFault::NoMemory
+    }
+}
+
+impl From<memory::NoMemory> for LoadFault {
+    ghost from_gives = { λ _ e. e ≡ NoMemory };
+
+    fn from(_error: memory::NoMemory) -> LoadFault {
         LoadFault::NoMemory
     }
 }

@@ -1,16 +1,15 @@
 ghost use Rattle.std.specs.Prelude.{◌≡◌, ◌≤◌, ◌<◌, ◌+◌, ◌^◌, ◌↔◌, length, take, IsTrue};
+ghost use Rattle.dl_journal.specs.Limits.{journal_limit, number_size, head_size};
 ghost use Rattle.dl_journal.specs.Batches.{magic};
 ghost use Rattle.dl_journal.specs.Reading.{number_of, size_of, is_due, ReadsBatch};
 ghost use Rattle.dl_journal.specs.Parsed.{Parses};
 
-use crate::batch::{Batch, Body};
+use crate::batch::Batch;
+use crate::layout::{AROUND, GATE, HEAD, LAST_NUMBER, MAGIC, NUMBER, START};
 use crate::load_fault::LoadFault;
 use byteorder::{BigEndian, ByteOrder};
+use dl_types::body::Body;
 use std::alloc::Global;
-
-const MAGIC: [u8; 8] = [68, 76, 74, 82, 78, 76, 48, 49];
-
-const GREATEST: u64 = 9_223_372_036_854_775_807;
 
 /// What a journal's bytes hold: the batches in force, the place of the shut gate, and the number of the next batch.
 #[derive(Drop)]
@@ -24,14 +23,14 @@ pub struct Contents {
 }
 
 fn has_magic(bytes: &[u8]) -> bool
-    ensures { IsTrue result ↔ (take 8 bytes.now ≡ magic) }
+    ensures { IsTrue result ↔ (take (length magic) bytes.now ≡ magic) }
 {
-    bytes.len() >= 8 && &bytes[..8] == MAGIC.as_slice()
+    bytes.len() >= MAGIC && bytes[..MAGIC] == START[..MAGIC]
 }
 
 #[tactic(auto, unfolding(crate::specs::Reading::number_of))]
 fn number_in(more: &[u8]) -> u64
-    requires { 8 ≤ length more.now }
+    requires { number_size ≤ length more.now }
     ensures { result ≡ number_of more.now }
 {
     BigEndian::read_u64(more)
@@ -39,18 +38,18 @@ fn number_in(more: &[u8]) -> u64
 
 #[tactic(auto, unfolding(crate::specs::Reading::size_of))]
 fn size_in(more: &[u8]) -> u32
-    requires { 12 ≤ length more.now }
+    requires { head_size ≤ length more.now }
     ensures { result ≡ size_of more.now }
 {
-    BigEndian::read_u32(&more[8..])
+    BigEndian::read_u32(&more[NUMBER..])
 }
 
 fn is_due(due: Option<u64>, number: u64) -> bool
     ensures { result ≡ is_due due number }
 {
     match due {
-        Some(due) => number == due && number <= GREATEST,
-        None => number <= GREATEST,
+        Some(due) => number == due && number <= LAST_NUMBER,
+        None => number <= LAST_NUMBER,
     }
 }
 
@@ -59,31 +58,28 @@ fn read_batch(alloc: Global, more: &[u8], at: u64, due: Option<u64>) -> Result<B
     requires { at < 2 ^ 32 }
     ensures { ReadsBatch due more.now at result }
 {
-    if more.len() < 8 {
+    if more.len() < NUMBER {
         return Err(LoadFault::Damaged(at));
     }
     let number = number_in(more);
     if !is_due(due, number) {
         return Err(LoadFault::Damaged(at));
     }
-    if more.len() < 12 {
-        return Err(LoadFault::Damaged(at + 8));
+    if more.len() < HEAD {
+        return Err(LoadFault::Damaged(at + NUMBER as u64));
     }
     let size = size_in(more) as usize;
-    if more.len() - 12 < size {
-        return Err(LoadFault::Damaged(at + 8));
+    if more.len() - HEAD < size {
+        return Err(LoadFault::Damaged(at + NUMBER as u64));
     }
-    let body = Vec::from_slice(alloc, &more[12..12 + size])?;
-    Ok(Batch {
-        number,
-        body: Body::from_vec(body),
-    })
+    let body = Body::new(alloc, &more[HEAD..HEAD + size])?;
+    Ok(Batch { number, body })
 }
 
 /// Reads the bytes of a journal. `Damaged` comes exactly where they break the layout, with the place of the first part
 /// that does: the magic, a number, a length or a missing gate.
 pub fn parse(alloc: Global, bytes: &[u8]) -> Result<Contents, LoadFault>
-    requires { length bytes.now ≤ 268435456 }
+    requires { length bytes.now ≤ journal_limit }
     ensures { Parses bytes.now result }
 {
     if !has_magic(bytes) {
@@ -91,10 +87,10 @@ pub fn parse(alloc: Global, bytes: &[u8]) -> Result<Contents, LoadFault>
     }
     let mut batches = Vec::new(alloc);
     let mut due = None;
-    let mut at = 8usize;
+    let mut at = MAGIC;
     while at < bytes.len() && bytes[at] == 1 {
-        let batch = read_batch(alloc, &bytes[at + 1..], at as u64 + 1, due)?;
-        at += 13 + batch.body.len();
+        let batch = read_batch(alloc, &bytes[at + GATE..], (at + GATE) as u64, due)?;
+        at += AROUND + batch.body.len();
         due = Some(batch.number + 1);
         batches.push(batch)?;
     }

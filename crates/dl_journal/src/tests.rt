@@ -2,7 +2,6 @@
 use crate::batch::Batch;
 use crate::commit_fault::CommitFault;
 use crate::journal::Journal;
-use crate::load::load;
 use crate::load_fault::LoadFault;
 use dl_depot::depot::Depot;
 use dl_depot::device_call::DeviceCall;
@@ -27,6 +26,7 @@ fn a_commit_makes_four_calls(rt: HostRuntime) -> Result<(), Fail> {
     let mut depot = MemDepot::new(rt.alloc())?;
     let mut journal = Journal::make(&mut depot, file)?;
     let mut frame = ABC;
+    assert_eq!(rt; journal.body_place(), 21);
     journal.commit(&mut depot, &mut frame)?;
     let calls = [
         DeviceCall::Write { at: 0, length: 9 },
@@ -39,7 +39,7 @@ fn a_commit_makes_four_calls(rt: HostRuntime) -> Result<(), Fail> {
     assert_eq!(rt; depot.calls(file), calls.as_slice());
     assert_eq!(rt; depot.size(file)?, 25);
     assert_eq!(rt; journal.spare(), 268_435_418);
-    let (loaded, batches) = load(rt.alloc(), &mut depot, file)?;
+    let (loaded, batches) = Journal::load(rt.alloc(), &mut depot, file)?;
     assert!(rt; is_abc(&batches));
     assert_eq!(rt; loaded.spare(), 268_435_418);
     Ok(())
@@ -67,7 +67,7 @@ fn a_stop_leaves_the_batch_or_not(rt: HostRuntime) -> Result<(), Fail> {
             Err(CommitFault::Device)
         );
         assert!(rt; depot.revive(file));
-        let (_, batches) = load(rt.alloc(), &mut depot, file)?;
+        let (_, batches) = Journal::load(rt.alloc(), &mut depot, file)?;
         assert_eq!(rt;
             is_abc(&batches),
             is_left,
@@ -96,7 +96,7 @@ fn a_fault_leaves_the_batch_or_not(rt: HostRuntime) -> Result<(), Fail> {
                 Err(CommitFault::Failed)
             );
         }
-        let (_, batches) = load(rt.alloc(), &mut depot, file)?;
+        let (_, batches) = Journal::load(rt.alloc(), &mut depot, file)?;
         assert_eq!(rt; is_abc(&batches), is_left, "call {call} fails");
         assert_eq!(rt; batches.is_empty(), !is_left);
     }
@@ -108,7 +108,7 @@ fn batches_in(rt: &impl AllocGlobal, bytes: &[u8]) -> Result<Result<usize, u64>,
     let file = FileId::new(1);
     let mut depot = MemDepot::new(rt.alloc())?;
     depot.write_at(file, 0, bytes)?;
-    match load(rt.alloc(), &mut depot, file) {
+    match Journal::load(rt.alloc(), &mut depot, file) {
         Ok((_, batches)) => Ok(Ok(batches.len())),
         Err(LoadFault::Damaged(at)) => Ok(Err(at)),
         Err(fault) => Err(Fail::from(fault)),

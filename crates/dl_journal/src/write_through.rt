@@ -1,5 +1,5 @@
 ghost use Rattle.dl_depot.specs.View.{AtMost};
-ghost use Rattle.dl_journal.specs.Stored.{Stored};
+ghost use Rattle.dl_journal.specs.Calls.{Stores};
 
 use dl_depot::depot::Depot;
 use dl_depot::device_fault::DeviceFault;
@@ -14,7 +14,7 @@ pub fn store<D: Depot>(
     bytes: &[u8],
 ) -> Result<(), DeviceFault>
     requires { AtMost at (D.view depot.old) file }
-    ensures { Stored (D.view depot.old) (D.view depot.new) file at bytes.now result }
+    ensures { Stores (D.view depot.old) (D.view depot.new) file at bytes.now result }
 {
     depot.write_at(file, at, bytes)?;
     depot.sync(file)

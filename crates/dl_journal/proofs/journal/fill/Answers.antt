@@ -1,7 +1,7 @@
 use Rattle.std.proofs.Common.{◌≡◌, ◌<◌, ◌+◌, ◌-◌, ◌++◌, [], ◌∷◌, ℕ, zero, suc, List, length, take, drop, set, refl, sym, ◌∙◌, ap, arith, append_assoc, length-append, length-drop, length-take}
 use Rattle.std.specs.Int.{w32, w64, to_be_bytes}
 use Rattle.std.proofs.lemmas.List.{take_at, drop_at, set-append_right, drop-drop}
-use Rattle.dl_journal.specs.Batches.{framed}
+use Rattle.dl_journal.specs.Batches.{frame_of}
 use Rattle.dl_journal.specs.Commits.{body_of}
 use Rattle.dl_journal.proofs.journal.fill.Goals as goal
 
@@ -28,7 +28,7 @@ filled xs h l some eight four =
     ∙ ap (λ (a : List ℕ). a ++ 0 ∷ []) (append_assoc h l (take (length xs - 13) (drop 12 xs)))
 
 pub returns : goal.returns
-unfolding framed
+unfolding frame_of
 returns c =
     let xs = c.args.frame.now in
     let first : c.copy_from_slice.new.self ≡ to_be_bytes w64 c.args.number = c.copy_from_slice.ensures.after ∙ c.to_be_bytes.ensures in

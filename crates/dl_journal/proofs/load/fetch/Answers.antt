@@ -9,7 +9,7 @@ returns-in-Err g c = sync_failed _ _ c.args.file c.in-Err.field-0 c.in-Err.ensur
 pub returns-in-Err-size : goal.returns-in-Err-size
 returns-in-Err-size g c =
     let z = c.in-Err-size.ensures.size in
-    look_failed _ _ _ c.args.file (reached _ _ c.args.file c.in_default.field-0 c.in_default.ensures.synced) z.looks z.failed
+    look_failed _ _ _ c.args.file (reached _ _ c.args.file c.in_default.field-0 c.in_default.ensures.synced) z.looks z.counts.failed
 
 pub returns-in-Err-zeros : goal.returns-in-Err-zeros
 returns-in-Err-zeros g c = no_room _ _ _ c.args.file c.in-Ok.size (reached _ _ c.args.file c.in_default.field-0 c.in_default.ensures.synced) c.in-Ok.ensures.size (omega arith)
@@ -26,4 +26,4 @@ returns-in-Ok-read g c =
 pub returns-in-Err-read : goal.returns-in-Err-read
 returns-in-Err-read g c =
     let r = c.in-Err-read.ensures.read in
-    look_failed _ _ _ c.args.file (looks_on _ _ _ c.args.file (reached _ _ c.args.file c.in_default.field-0 c.in_default.ensures.synced) c.in-Ok.ensures.size.looks) r.looks r.failed
+    look_failed _ _ _ c.args.file (looks_on _ _ _ c.args.file (reached _ _ c.args.file c.in_default.field-0 c.in_default.ensures.synced) c.in-Ok.ensures.size.looks c.in-Ok.ensures.size.counts.passed) r.looks r.counts.failed

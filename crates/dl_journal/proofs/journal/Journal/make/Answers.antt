@@ -1,4 +1,4 @@
-use Rattle.dl_journal.proofs.Committing.{made}
+use Rattle.dl_journal.proofs.Standing.{made}
 use Rattle.dl_journal.proofs.journal.Journal.make.Goals as goal
 
 pub returns : goal.returns

@@ -22,9 +22,9 @@ pub enum End {
     StoppedAfter,
 }
 
-/// A writing call in the log of a depot in memory.
+/// A writing call, as the log of a depot in memory keeps it.
 #[derive(Drop)]
-pub struct Entry {
+pub struct LoggedCall {
     /// The file that it was made on.
     pub file: FileId,
     /// What it did.
