@@ -1,11 +1,11 @@
 -- Chains of pages: how often a page stands in them, and what a change of one link leaves.
 use Rattle.std.proofs.Common.{◌≡◌, ◌≢◌, ℕ, zero, suc, ◌+◌, ◌-◌, ◌*◌, ◌<◌, ◌≤◌, min, cond, ◌==◌, List, [], ◌∷◌, ◌++◌, length, take, drop, set, slice_index, sum_by, refl, sym, ap, ◌∙◌, subst, arith, inl, inr, ◌⊎◌, eq-eqb}
 use Rattle.std.specs.List.{concat}
-use Rattle.std.proofs.lemmas.Bool.{cases_eq, cases_lt, ne_eqb, cond-true, cond-false}
+use Rattle.std.proofs.lemmas.Bool.{cases_eq, ne_eqb, cond-true, cond-false}
 use Rattle.std.proofs.lemmas.List.{length-take, length-take-le, take_rest, take_min, take-take, take-append-drop, drop-take, append-nil, length-drop, length-append, get_or-set_other, append_assoc}
 use Rattle.std.proofs.lemmas.List.Sums.{sum_by-cons, sum_by-append, sum_by_push}
 use Rattle.dl_types.specs.Ensembles.{upto}
-use Rattle.dl_pool.specs.Pages.{walk, page_after, times, page_bytes, parts_in}
+use Rattle.dl_pool.specs.Pages.{walk, page_after, times, page_bytes, parts_in, HasPage, HasPages, WritesPages}
 
 pub times-cons : (page first : ℕ) (chain : List ℕ) → times page (first ∷ chain) ≡ cond (first == page) 1 0 + times page chain
 times-cons page first chain = sum_by-cons (λ x. cond (x == page) 1 0) first chain
@@ -73,19 +73,6 @@ page_after-set next at to page (suc count) none =
     ap (λ p. page_after (set next at to) p count) (get_or-set_other next at page to 0 other)
     ∙ page_after-set next at to (slice_index next page) count (omega (arith, times-tail at page (walk next (slice_index next page) count) other))
 
--- each page of a chain is below the bound
-abbrev pub Within : ℕ → List ℕ → Type 0
-Within bound [] = Unit {0}
-Within bound (page ∷ chain) = (page < bound) × Within bound chain
-
-pub within_by_times : (bound : ℕ) (chain : List ℕ) → ((page : ℕ) → bound ≤ page → times page chain ≡ 0) → Within bound chain
-within_by_times bound [] none = tt
-within_by_times bound (page ∷ chain) none = (below (cases_lt page bound), within_by_times bound chain (λ q far. omega (arith, times-tail-le q page chain, none q far)))
-  where
-    below : (page < bound) ⊎ (bound ≤ page) → page < bound
-    below (inl h) = h
-    below (inr h) = absurd (omega (arith, times-head page chain, none page h))
-
 -- memories that agree on the pages of a chain have the same parts in it
 part_agree : (m w : List ℕ) (page bytes : ℕ) → page_bytes m page ≡ page_bytes w page → take (min bytes 4096) (drop (page * 4096) m) ≡ take (min bytes 4096) (drop (page * 4096) w)
 part_agree m w page bytes same = sym (shorter m) ∙ ap (take (min bytes 4096)) same ∙ shorter w
@@ -123,16 +110,17 @@ concat-append [] ys = refl
 concat-append (x ∷ xs) ys = ap (λ rest. x ++ rest) (concat-append xs ys) ∙ sym (append_assoc x (concat xs) (concat ys))
 
 -- a chain that is long enough holds all the bytes
-pub length-concat-parts_in : (m chain : List ℕ) (bound bytes : ℕ) → length m ≡ bound * 4096 → Within bound chain → bytes ≤ length chain * 4096 → length (concat (parts_in m chain bytes)) ≡ bytes
-length-concat-parts_in m [] bound bytes whole within enough = omega arith
-length-concat-parts_in m (page ∷ chain) bound bytes whole within enough =
+pub length-concat-parts_in : (m chain : List ℕ) (bytes : ℕ) → HasPages m chain → bytes ≤ length chain * 4096 → length (concat (parts_in m chain bytes)) ≡ bytes
+length-concat-parts_in m [] bytes pages enough = omega arith
+length-concat-parts_in m (page ∷ chain) bytes pages enough =
     let here : length (take (min bytes 4096) (drop (page * 4096) m)) ≡ min bytes 4096 =
-    length-take-le (min bytes 4096) (drop (page * 4096) m) (omega (arith, length-drop (page * 4096) m, within.0)) in
+    length-take-le (min bytes 4096) (drop (page * 4096) m)
+    (omega (arith, length-drop (page * 4096) m, pages page (omega (arith, times-head page chain)))) in
     omega (
       arith,
       length-append (take (min bytes 4096) (drop (page * 4096) m)) (concat (parts_in m chain (bytes - 4096))),
       here,
-      length-concat-parts_in m chain bound (bytes - 4096) whole within.1 (omega arith),
+      length-concat-parts_in m chain (bytes - 4096) (λ q stands. pages q (omega (arith, times-tail-le q page chain, stands))) (omega arith),
     )
 
 -- sums over all numbers below a bound, of functions that agree there
@@ -191,34 +179,6 @@ take_add n m xs =
     ∙ ap (λ front. front ++ drop n (take (n + m) xs)) (take-take n (n + m) xs (omega arith))
     ∙ ap (λ back. take n xs ++ back) (drop-take n m xs)
 
--- one page more holds the next part of the bytes
-pub filled_more : (m w next bytes part : List ℕ) (first i : ℕ)
-    → concat (parts_in m (walk next first i) (length bytes)) ≡ take (i * 4096) bytes
-    → times (page_after next first i) (walk next first i) ≡ 0
-    → part ≡ take 4096 (drop (i * 4096) bytes)
-    → take (length part) (drop (page_after next first i * 4096) w) ≡ part
-    → ((q : ℕ) → q ≢ page_after next first i → page_bytes w q ≡ page_bytes m q)
-    → concat (parts_in w (walk next first (i + 1)) (length bytes)) ≡ take ((i + 1) * 4096) bytes
-filled_more m w next bytes part first i before new is here others =
-    let p = page_after next first i in
-    let chain = walk next first i in
-    let size : min (length bytes - length chain * 4096) 4096 ≡ length part =
-    omega (arith, length-walk next first i, ap length is, length-take 4096 (drop (i * 4096) bytes), length-drop (i * 4096) bytes) in
-    let same : parts_in w chain (length bytes) ≡ parts_in m chain (length bytes) =
-    parts_in-agree w m chain (length bytes) (λ q some. others q (λ e. absurd (omega (arith, ap (λ x. times x chain) e, new)))) in
-    ap (λ c. concat (parts_in w c (length bytes))) (walk_more next first i)
-    ∙ ap concat (parts_in_push w chain p (length bytes))
-    ∙ concat-append (parts_in w chain (length bytes)) (take (min (length bytes - length chain * 4096) 4096) (drop (p * 4096) w) ∷ [])
-    ∙ ap (λ front. front ++ (take (min (length bytes - length chain * 4096) 4096) (drop (p * 4096) w) ++ [])) (ap concat same ∙ before)
-    ∙ ap (λ back. take (i * 4096) bytes ++ back)
-    (append-nil (take (min (length bytes - length chain * 4096) 4096) (drop (p * 4096) w))
-    ∙ ap (λ n. take n (drop (p * 4096) w)) size ∙ here ∙ is)
-    ∙ sym (take_add (i * 4096) 4096 bytes)
-    ∙ ap (λ n. take n bytes) (next_place i)
-  where
-    next_place : (n : ℕ) → n * 4096 + 4096 ≡ (n + 1) * 4096
-    next_place n = omega arith
-
 -- the page that comes after i pages of a longer chain is below a bound of the chain's pages
 pub page_after-within : (next : List ℕ) (first i k bound page : ℕ) → page ≡ page_after next first i → i < k → ((q : ℕ) → 0 < times q (walk next first k) → q < bound) → page < bound
 page_after-within next first i k bound page is longer within =
@@ -231,16 +191,41 @@ page_after-new next first i k longer once = omega (arith, stands_in next first i
 pub page_after_next : (next : List ℕ) (first i page : ℕ) → page ≡ page_after next first i → slice_index next page ≡ page_after next first (i + 1)
 page_after_next next first i page is = ap (slice_index next) is ∙ sym (page_after_more next first i)
 
--- pages that don't stand in a chain with one page more were not written before and are not written now
-pub others_more : (m w v next : List ℕ) (first i page : ℕ) → page ≡ page_after next first i
-    → ((q : ℕ) → times q (walk next first i) ≡ 0 → page_bytes w q ≡ page_bytes m q)
-    → ((q : ℕ) → q ≢ page → page_bytes v q ≡ page_bytes w q)
-    → (q : ℕ) → times q (walk next first (i + 1)) ≡ 0 → page_bytes v q ≡ page_bytes m q
-others_more m w v next first i page is before now q none =
+-- ---- filling a chain page by page
+
+-- the first pages of a chain hold the front of the bytes, and no other page changed
+pub record IsFilled (old memory next bytes : List ℕ) (first i : ℕ) : Type 0 where
+  pub here : concat (parts_in memory (walk next first i) (length bytes)) ≡ take (i * 4096) bytes
+  pub pages : HasPages memory (walk next first i)
+  pub writes : WritesPages old memory (walk next first i)
+
+-- the chain with one page more
+times-more : (q : ℕ) (next : List ℕ) (first i : ℕ) → times q (walk next first (i + 1)) ≡ times q (walk next first i) + times q (page_after next first i ∷ [])
+times-more q next first i = ap (times q) (walk_more next first i) ∙ times-append q (walk next first i) (page_after next first i ∷ [])
+
+-- one page more holds the next part of the bytes
+filled_more : (m w next bytes part : List ℕ) (first i : ℕ)
+    → concat (parts_in m (walk next first i) (length bytes)) ≡ take (i * 4096) bytes
+    → ((q : ℕ) → 0 < times q (walk next first i) → page_bytes w q ≡ page_bytes m q)
+    → part ≡ take 4096 (drop (i * 4096) bytes)
+    → take (length part) (drop (page_after next first i * 4096) w) ≡ part
+    → concat (parts_in w (walk next first (i + 1)) (length bytes)) ≡ take ((i + 1) * 4096) bytes
+filled_more m w next bytes part first i before same is here =
     let p = page_after next first i in
-    let both = ap (times q) (walk_more next first i) in
-    let split : times q (walk next first i ++ p ∷ []) ≡ times q (walk next first i) + times q (p ∷ []) = times-append q (walk next first i) (p ∷ []) in
-    now q (λ e. omega (arith, both, split, none, times-head q [], ap (λ x. times q (x ∷ [])) (e ∙ is))) ∙ before q (omega (arith, both, split, none))
+    let chain = walk next first i in
+    let last = take (min (length bytes - length chain * 4096) 4096) (drop (p * 4096) w) in
+    let size : min (length bytes - length chain * 4096) 4096 ≡ length part =
+    omega (arith, length-walk next first i, ap length is, length-take 4096 (drop (i * 4096) bytes), length-drop (i * 4096) bytes) in
+    ap (λ c. concat (parts_in w c (length bytes))) (walk_more next first i)
+    ∙ ap concat (parts_in_push w chain p (length bytes))
+    ∙ concat-append (parts_in w chain (length bytes)) (last ∷ [])
+    ∙ ap (λ front. front ++ (last ++ [])) (ap concat (parts_in-agree w m chain (length bytes) same) ∙ before)
+    ∙ ap (λ back. take (i * 4096) bytes ++ back) (append-nil last ∙ ap (λ n. take n (drop (p * 4096) w)) size ∙ here ∙ is)
+    ∙ sym (take_add (i * 4096) 4096 bytes)
+    ∙ ap (λ n. take n bytes) (next_place i)
+  where
+    next_place : (n : ℕ) → n * 4096 + 4096 ≡ (n + 1) * 4096
+    next_place n = omega arith
 
 -- at most a page of what is left of the bytes
 cut : (bytes : List ℕ) (a n : ℕ) → n ≡ min (length (take (length bytes - a) (drop a bytes))) 4096 → take n (take (length bytes - a) (drop a bytes)) ≡ take 4096 (drop a bytes)
@@ -252,16 +237,43 @@ cut bytes a n is =
     swapped : (k : ℕ) → min k 4096 ≡ min 4096 k
     swapped k = omega arith
 
--- the same of the page that the code has, and of the part that it cuts
-pub filled_page : (m w next bytes : List ℕ) (first i page n : ℕ)
+-- the page that the code has is written with the part that it cuts
+pub filled_page : (old m w next bytes : List ℕ) (first i k page n : ℕ) → i < k → ((q : ℕ) → times q (walk next first k) ≤ 1)
     → page ≡ page_after next first i
     → n ≡ min (length (take (length bytes - i * 4096) (drop (i * 4096) bytes))) 4096
-    → concat (parts_in m (walk next first i) (length bytes)) ≡ take (i * 4096) bytes
-    → times (page_after next first i) (walk next first i) ≡ 0
     → take (length (take n (take (length bytes - i * 4096) (drop (i * 4096) bytes)))) (drop (page * 4096) w) ≡ take n (take (length bytes - i * 4096) (drop (i * 4096) bytes))
-    → ((q : ℕ) → q ≢ page → page_bytes w q ≡ page_bytes m q)
-    → concat (parts_in w (walk next first (i + 1)) (length bytes)) ≡ take ((i + 1) * 4096) bytes
-filled_page m w next bytes first i page n is size before new here others =
-    filled_more m w next bytes (take n (take (length bytes - i * 4096) (drop (i * 4096) bytes))) first i before new (cut bytes (i * 4096) n size)
-    (subst (λ p. take (length (take n (take (length bytes - i * 4096) (drop (i * 4096) bytes)))) (drop (p * 4096) w) ≡ take n (take (length bytes - i * 4096) (drop (i * 4096) bytes))) is here)
-    (λ q apart. others q (λ e. apart (e ∙ is)))
+    → HasPage w page → WritesPages m w (page ∷ []) → IsFilled old m next bytes first i → IsFilled old w next bytes first (i + 1)
+filled_page old m w next bytes first i k page n longer once is size here has writes before =
+    let p = page_after next first i in
+    let part = take n (take (length bytes - i * 4096) (drop (i * 4096) bytes)) in
+    let new = page_after-new next first i k longer once in
+    let other : (q : ℕ) → (q ≡ p → ⊥) → times q (page ∷ []) ≡ 0 = λ q apart. omega (arith, times-tail q page [] (λ e. apart (sym e ∙ is))) in
+    record {
+      here = filled_more m w next bytes part first i before.here
+          (λ q stands. writes.others q (other q (λ e. omega (arith, ap (λ x. times x (walk next first i)) e, new, stands))) (before.pages q stands))
+          (cut bytes (i * 4096) n size)
+          (subst (λ p. take (length part) (drop (p * 4096) w) ≡ part) is here);
+      pages = λ q stands. go q (cases_eq q p) stands;
+      writes = record {
+        longer = omega (arith, before.writes.longer, writes.longer);
+        others = λ q none there.
+            writes.others q (other q (λ e. omega (arith, ap (λ x. times q (x ∷ [])) (sym e), times-head q [], times-more q next first i, none))) (omega (arith, there, before.writes.longer))
+            ∙ before.writes.others q (omega (arith, times-more q next first i, none)) there;
+      };
+    }
+  where
+    go : (q : ℕ) → (q ≡ page_after next first i) ⊎ (q ≡ page_after next first i → ⊥) → 0 < times q (walk next first (i + 1)) → HasPage w q
+    go q (inl e) stands = subst (HasPage w) (is ∙ sym e) has
+    go q (inr apart) stands =
+        omega (
+          arith,
+          before.pages q (omega (arith, stands, times-more q next first i, times-tail q (page_after next first i) [] (λ e. apart (sym e)))),
+          writes.longer,
+        )
+
+pub filled_none : (m next bytes : List ℕ) (first : ℕ) → IsFilled m m next bytes first 0
+filled_none m next bytes first = record {
+  here = refl;
+  pages = λ q stands. absurd (omega (arith, stands));
+  writes = record { longer = omega arith; others = λ q none there. refl };
+}

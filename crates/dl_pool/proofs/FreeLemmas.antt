@@ -1,5 +1,5 @@
 -- A piece freed: its last page is linked to the free ones.
-use Rattle.std.proofs.Common.{◌≡◌, ◌≢◌, ℕ, zero, suc, ◌+◌, ◌-◌, ◌*◌, ◌<◌, ◌≤◌, cond, Some, List, [], ◌∷◌, ◌++◌, length, set, slice_index, sum_by, refl, sym, ap, ◌∙◌, arith, inl, inr, ◌⊎◌, nat_lt}
+use Rattle.std.proofs.Common.{◌≡◌, ◌≢◌, ℕ, zero, suc, ◌+◌, ◌-◌, ◌<◌, ◌≤◌, cond, Some, List, [], ◌∷◌, ◌++◌, length, set, slice_index, sum_by, refl, sym, ap, ◌∙◌, arith, inl, inr, ◌⊎◌, nat_lt}
 use Rattle.std.specs.List.{concat}
 use Rattle.std.proofs.lemmas.Bool.{cases_lt}
 use Rattle.std.proofs.lemmas.List.{length-set, get_or-set_same, get_or-set_other}
@@ -109,7 +109,7 @@ module _ (m next lengths : List ℕ) (free left : ℕ) (sound : IsSound m next l
 
   pub free_sound : IsSound m (set next last_page free) (set lengths first 0) first (left + pages_of (slice_index lengths first))
   free_sound = record {
-    memory_length = sound.memory_length ∙ ap (λ n. n * 4096) (sym (length-set next last_page free));
+    written = λ page some. sound.written page (omega (arith, some, used_less page));
     lengths_length = length-set lengths first 0 ∙ sound.lengths_length ∙ sym (length-set next last_page free);
     few = omega (arith, sound.few, length-set next last_page free);
     counted =

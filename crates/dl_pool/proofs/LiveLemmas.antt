@@ -1,5 +1,5 @@
 -- A live span and its piece, as the code reads them.
-use Rattle.std.proofs.Common.{◌≡◌, ℕ, suc, ◌-◌, ◌*◌, ◌<◌, ◌≤◌, List, [], Option, Some, None, length, slice_index, get_or, refl, sym, ap, ◌∙◌, subst, arith, inl, inr, ◌⊎◌, IsSome}
+use Rattle.std.proofs.Common.{◌≡◌, ℕ, suc, ◌-◌, ◌<◌, ◌≤◌, List, [], Option, Some, None, length, slice_index, get_or, refl, sym, ap, ◌∙◌, subst, arith, inl, inr, ◌⊎◌, IsSome}
 use Rattle.std.specs.List.{concat}
 use Rattle.std.proofs.lemmas.Bool.{cases_lt}
 use Rattle.std.proofs.lemmas.List.{get_or_default}
@@ -7,18 +7,18 @@ use Rattle.dl_pool.specs.Pools.{Held, bytes_at, IsLive, pages_of}
 use Rattle.dl_pool.specs.Pages.{held, walk, times, parts_in, pages_from, piece_from, IsSound, IsReadable}
 use Rattle.dl_pool.proofs.PageLemmas.{pages_of-zero}
 use Rattle.dl_pool.proofs.ChainLemmas.{length-walk, length-parts_in}
-use Rattle.dl_pool.proofs.SoundLemmas.{bytes_at-held, piece_at-some, piece_at-none, begins_below, used_within, length-piece_from}
+use Rattle.dl_pool.proofs.SoundLemmas.{bytes_at-held, piece_at-some, piece_at-none, begins_below, used_within, used_written, length-piece_from}
 use Rattle.dl_pool.proofs.ReadLemmas.{no_parts}
 
 none_is_not_live : (o : Option (List ℕ)) → o ≡ None → IsSome o → ⊥
 none_is_not_live o none some = cc
 
 -- nothing is left to read
-pub none_readable : (m next lengths : List ℕ) (free left : ℕ) → IsSound m next lengths free left → (seen links : List ℕ) → seen ≡ m → links ≡ next → IsReadable seen links 0 0
-none_readable m next lengths free left sound seen links same_memory same_links = record {
-  memory_length = ap length same_memory ∙ sound.memory_length ∙ ap (λ n. length n * 4096) (sym same_links);
-  within = λ q stands. absurd (omega (arith, ap (λ k. times q (walk links 0 k)) pages_of-zero, stands));
-}
+pub none_readable : (seen links : List ℕ) → IsReadable seen links 0 0
+none_readable seen links = record { written = λ q stands. absurd (none q stands); within = λ q stands. absurd (none q stands) }
+  where
+    none : (q : ℕ) → 0 < times q (walk links 0 (pages_of 0)) → ⊥
+    none q stands = omega (arith, ap (λ k. times q (walk links 0 k)) pages_of-zero, stands)
 
 pub none_joined : (h : Held) (span number : ℕ) (parts : List (List ℕ)) (seen links : List ℕ) → number ≡ span → number ≡ 0
     → parts ≡ parts_in seen (walk links 0 (pages_of 0)) 0 → Some (concat parts) ≡ bytes_at h span
@@ -74,7 +74,7 @@ module _ (m next lengths : List ℕ) (free left : ℕ) (sound : IsSound m next l
           subst (λ n. IsReadable seen links (number - 1) n) (sym length_read)
           (subst (λ n. IsReadable seen n (number - 1) (slice_index lengths (number - 1))) (sym same_links)
           (subst (λ w. IsReadable w next (number - 1) (slice_index lengths (number - 1))) (sym same_memory)
-          (record { memory_length = sound.memory_length; within = λ q stands. used_within m next lengths free left sound q (number - 1) live_below stands })))
+          (record { written = used_written m next lengths free left sound (number - 1) live_below; within = λ q stands. used_within m next lengths free left sound q (number - 1) live_below stands })))
 
       parts_are : (parts : List (List ℕ)) → parts ≡ parts_in seen (walk links (number - 1) (pages_of read)) read
           → parts ≡ parts_in m (pages_from next lengths (number - 1)) (slice_index lengths (number - 1))

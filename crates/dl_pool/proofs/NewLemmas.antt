@@ -1,5 +1,5 @@
 -- A new pool: one chain of all pages, and no piece.
-use Rattle.std.proofs.Common.{◌≡◌, ℕ, zero, suc, ◌+◌, ◌*◌, ◌^◌, ◌<◌, ◌≤◌, cond, ◌==◌, List, [], ◌∷◌, ◌++◌, length, slice_index, sum_by, refl, sym, ap, ◌∙◌, arith, inl, inr, ◌⊎◌, nat_lt, eq-eqb}
+use Rattle.std.proofs.Common.{◌≡◌, ℕ, zero, suc, ◌+◌, ◌^◌, ◌<◌, ◌≤◌, cond, ◌==◌, List, [], ◌∷◌, ◌++◌, length, slice_index, sum_by, refl, sym, ap, ◌∙◌, arith, inl, inr, ◌⊎◌, nat_lt, eq-eqb}
 use Rattle.std.specs.List.{flat_map}
 use Rattle.std.proofs.lemmas.Bool.{cases_lt, cond-true, cond-false, lt-ltb, le-ltb}
 use Rattle.std.proofs.lemmas.List.{append-nil}
@@ -55,9 +55,9 @@ module _ (next : List ℕ) (pages : ℕ) (rises : (k : ℕ) → k < pages → sl
     unused : (page k : ℕ) → times page (pages_from next lengths k) ≡ 0
     unused page k = ap (λ n. times page (walk next k n)) (ap pages_of (none k) ∙ pages_of-zero)
 
-    pub new_sound : length m ≡ pages * 4096 → length lengths ≡ pages → pages < 2 ^ 32 → IsSound m next lengths 0 pages
-    new_sound memory size few = record {
-      memory_length = omega (arith, memory, whole);
+    pub new_sound : length lengths ≡ pages → pages < 2 ^ 32 → IsSound m next lengths 0 pages
+    new_sound size few = record {
+      written = λ page some. absurd (omega (arith, some, sum_by-upto-none (λ k. times page (pages_from next lengths k)) (length next) (unused page)));
       lengths_length = size ∙ sym whole;
       few = omega (arith, few, whole);
       counted = omega (arith, sum_by-upto-none (λ k. pages_of (slice_index lengths k)) (length next) (λ k. ap pages_of (none k) ∙ pages_of-zero), whole);

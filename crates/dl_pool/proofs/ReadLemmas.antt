@@ -1,7 +1,7 @@
 -- Reading a piece page by page.
 use Rattle.std.proofs.Common.{◌≡◌, ℕ, ◌-◌, ◌*◌, ◌<◌, min, List, [], ◌∷◌, length, take, drop, slice_index, sym, ap, ◌∙◌, arith}
 use Rattle.dl_pool.specs.Pools.{pages_of}
-use Rattle.dl_pool.specs.Pages.{walk, times, parts_in, IsReadable}
+use Rattle.dl_pool.specs.Pages.{walk, times, parts_in, HasPage, IsReadable}
 use Rattle.dl_pool.proofs.PageLemmas.{pages_of-zero, pages_of-more}
 use Rattle.dl_pool.proofs.ChainLemmas.{times-head, times-tail-le}
 
@@ -11,24 +11,27 @@ no_parts m next page n none = ap (λ k. parts_in m (walk next page (pages_of k))
 left_is : (n count : ℕ) → count ≡ min n 4096 → n - count ≡ n - 4096
 left_is n count is = omega arith
 
-pub first_readable : (m next : List ℕ) (page n : ℕ) → IsReadable m next page n → 0 < n → page < length next
+pub first_readable : (m next : List ℕ) (page n : ℕ) → IsReadable m next page n → 0 < n → (page < length next) × HasPage m page
 first_readable m next page n readable some =
-    readable.within page
-    (omega (arith, ap (λ k. times page (walk next page k)) (pages_of-more n some), times-head page (walk next (slice_index next page) (pages_of (n - 4096)))))
+    let stands : 0 < times page (walk next page (pages_of n)) =
+    omega (arith, ap (λ k. times page (walk next page k)) (pages_of-more n some), times-head page (walk next (slice_index next page) (pages_of (n - 4096)))) in
+    (readable.within page stands, readable.written page stands)
 
 pub rest_readable : (m next : List ℕ) (page n count : ℕ) → IsReadable m next page n → 0 < n → count ≡ min n 4096 → IsReadable m next (slice_index next page) (n - count)
 rest_readable m next page n count readable some is = record {
-  memory_length = readable.memory_length;
-  within = λ q stands.
-      readable.within q
-      (omega (
-        arith,
-        ap (λ k. times q (walk next page k)) (pages_of-more n some),
-        times-tail-le q page (walk next (slice_index next page) (pages_of (n - 4096))),
-        ap (λ k. times q (walk next (slice_index next page) (pages_of k))) (left_is n count is),
-        stands,
-      ));
+  written = λ q stands. readable.written q (among q stands);
+  within = λ q stands. readable.within q (among q stands);
 }
+  where
+    among : (q : ℕ) → 0 < times q (walk next (slice_index next page) (pages_of (n - count))) → 0 < times q (walk next page (pages_of n))
+    among q stands =
+        omega (
+          arith,
+          ap (λ k. times q (walk next page k)) (pages_of-more n some),
+          times-tail-le q page (walk next (slice_index next page) (pages_of (n - 4096))),
+          ap (λ k. times q (walk next (slice_index next page) (pages_of k))) (left_is n count is),
+          stands,
+        )
 
 pub parts_step : (m next : List ℕ) (page n count : ℕ) → 0 < n → count ≡ min n 4096
     → parts_in m (walk next page (pages_of n)) n ≡ take count (drop (page * 4096) m) ∷ parts_in m (walk next (slice_index next page) (pages_of (n - count))) (n - count)

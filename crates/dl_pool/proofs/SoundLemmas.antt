@@ -8,9 +8,9 @@ use Rattle.std.proofs.lemmas.List.Concat.{flat_map-append}
 use Rattle.std.proofs.lemmas.List.Sums.{sum_by-append, sum_by-cons, sum_by_push}
 use Rattle.dl_types.specs.Ensembles.{upto}
 use Rattle.dl_pool.specs.Pools.{Adds, look_up, bytes_at, spare, pages_of}
-use Rattle.dl_pool.specs.Pages.{walk, page_after, times, page_bytes, parts_in, pages_from, piece_from, pair_at, held, times_used, pages_used, IsSound}
+use Rattle.dl_pool.specs.Pages.{walk, page_after, times, parts_in, pages_from, piece_from, pair_at, held, times_used, pages_used, HasPage, HasPages, WritesPages, IsSound}
 use Rattle.dl_pool.proofs.PageLemmas.{pages_of-zero, pages_of-enough, pages_of-some}
-use Rattle.dl_pool.proofs.ChainLemmas.{within_by_times, times-append, length-walk, walk-add, parts_in-agree, length-concat-parts_in, sum_by-upto-change, sum_by-upto-one, sum_by-upto-two, stands_in}
+use Rattle.dl_pool.proofs.ChainLemmas.{times-append, length-walk, walk-add, parts_in-agree, length-concat-parts_in, sum_by-upto-change, sum_by-upto-one, sum_by-upto-two, stands_in}
 
 -- ---- look-ups
 
@@ -145,6 +145,10 @@ module _ (m next lengths : List ℕ) (free left : ℕ) (sound : IsSound m next l
   pub used_within : (page first : ℕ) → first < length next → 0 < times page (pages_from next lengths first) → page < length next
   used_within page first below some = below_if page (length next) (omega (arith, sound.once page, one_used page first below))
 
+  -- the memory has a piece's pages
+  pub used_written : (first : ℕ) → first < length next → HasPages m (pages_from next lengths first)
+  used_written first below page some = sound.written page (omega (arith, some, one_used page first below))
+
   -- no page is free and used
   pub free_or_used : (page first : ℕ) → first < length next → 0 < times page (pages_from next lengths first) → times page (walk next free left) ≡ 0
   free_or_used page first below some = omega (arith, sound.once page, at_most_one page (length next), one_used page first below)
@@ -171,9 +175,7 @@ module _ (m next lengths : List ℕ) (free left : ℕ) (sound : IsSound m next l
   -- a piece has as many bytes as its length says
   pub length-piece_from : (first : ℕ) → first < length next → length (piece_from m next lengths first) ≡ slice_index lengths first
   length-piece_from first below =
-      length-concat-parts_in m (pages_from next lengths first) (length next) (slice_index lengths first) sound.memory_length
-      (within_by_times (length next) (pages_from next lengths first)
-      (λ page far. omega (arith, sound.once page, none_if page (length next) far, one_used page first below)))
+      length-concat-parts_in m (pages_from next lengths first) (slice_index lengths first) (used_written first below)
       (omega (arith, length-walk next first (pages_of (slice_index lengths first)), pages_of-enough (slice_index lengths first)))
 
 -- ---- spare pages
@@ -277,58 +279,67 @@ module _ (m next lengths : List ℕ) (free left : ℕ) (sound : IsSound m next l
         ap pages_of first_unused ∙ pages_of-zero,
       )
 
-  pub put_sound : length w ≡ length m → IsSound w next (set lengths free (length bytes)) (page_after next free (pages_of (length bytes))) (left - pages_of (length bytes))
-  put_sound same = record {
-    memory_length = same ∙ sound.memory_length;
-    lengths_length = length-set lengths free (length bytes) ∙ sound.lengths_length;
-    few = sound.few;
-    counted = omega (arith, pages_more, sound.counted, enough);
-    once = λ page. sum_moves (times page (walk next (page_after next free (pages_of (length bytes))) (left - pages_of (length bytes)))) _ _ _ _ _ (free_split page) (used_more page) (sound.once page);
-  }
-    where
-      sum_moves : (rest used' used here all one : ℕ) → all ≡ here + rest → used' ≡ used + here → all + used ≡ one → rest + used' ≡ one
-      sum_moves rest used' used here all one a b c = omega arith
+  -- the pages of the new piece are in the memory, and those that it had
+  module _ (has : HasPages w (walk next free (pages_of (length bytes)))) (writes : WritesPages m w (walk next free (pages_of (length bytes)))) where
+    put_written : (page : ℕ) → 0 < times_used next (set lengths free (length bytes)) page → HasPage w page
+    put_written page some = go (cases_lt 0 (times page (walk next free (pages_of (length bytes)))))
+      where
+        go : (0 < times page (walk next free (pages_of (length bytes)))) ⊎ (times page (walk next free (pages_of (length bytes))) ≤ 0) → HasPage w page
+        go (inl new) = has page new
+        go (inr old) = omega (arith, sound.written page (omega (arith, some, old, used_more page)), writes.longer)
 
-  pub put_adds : length w ≡ length m → concat (parts_in w (walk next free (pages_of (length bytes))) (length bytes)) ≡ bytes
-      → ((page : ℕ) → times page (walk next free (pages_of (length bytes))) ≡ 0 → page_bytes w page ≡ page_bytes m page)
-      → Adds (held m next lengths) (suc free) bytes (held w next (set lengths free (length bytes)))
-  put_adds same here others = record {
-    here =
-        bytes_at-held w next (set lengths free (length bytes)) free after.lengths_length
-        ∙ piece_at-some w next (set lengths free (length bytes)) free (omega (arith, length_here))
-        ∙ ap Some (ap (λ n. concat (parts_in w (walk next free (pages_of n)) n)) length_here ∙ here);
-    fresh = λ _. bytes_at-held m next lengths free sound.lengths_length ∙ piece_at-none m next lengths free first_unused;
-    others = other;
-    pages = refl;
-    room =
-        omega (
-          arith,
-          spare-held m next lengths free left sound,
-          spare-held w next (set lengths free (length bytes)) (page_after next free (pages_of (length bytes))) (left - pages_of (length bytes)) after,
-          enough,
-        );
-  }
-    where
-      after : IsSound w next (set lengths free (length bytes)) (page_after next free (pages_of (length bytes))) (left - pages_of (length bytes))
-      after = put_sound same
+    pub put_sound : IsSound w next (set lengths free (length bytes)) (page_after next free (pages_of (length bytes))) (left - pages_of (length bytes))
+    put_sound = record {
+      written = put_written;
+      lengths_length = length-set lengths free (length bytes) ∙ sound.lengths_length;
+      few = sound.few;
+      counted = omega (arith, pages_more, sound.counted, enough);
+      once = λ page. sum_moves (times page (walk next (page_after next free (pages_of (length bytes))) (left - pages_of (length bytes)))) _ _ _ _ _ (free_split page) (used_more page) (sound.once page);
+    }
+      where
+        sum_moves : (rest used' used here all one : ℕ) → all ≡ here + rest → used' ≡ used + here → all + used ≡ one → rest + used' ≡ one
+        sum_moves rest used' used here all one a b c = omega arith
 
-      stays : (p : ℕ) → p ≢ free → (0 < slice_index lengths p) ⊎ (slice_index lengths p ≤ 0) → piece_at w next (set lengths free (length bytes)) p ≡ piece_at m next lengths p
-      stays p apart (inr none) =
-          piece_at-none w next (set lengths free (length bytes)) p (omega (arith, length_other p apart))
-          ∙ sym (piece_at-none m next lengths p (omega arith))
-      stays p apart (inl used) =
-          piece_at-some w next (set lengths free (length bytes)) p (omega (arith, length_other p apart))
-          ∙ ap Some
-          (ap (λ n. concat (parts_in w (walk next p (pages_of n)) n)) (length_other p apart)
-          ∙ ap concat
-          (parts_in-agree w m (pages_from next lengths p) (slice_index lengths p)
-          (λ page stands. others page
-          (omega (arith, free_split page, free_or_used m next lengths free left sound page p (begins_below m next lengths free left sound p used) stands)))))
-          ∙ sym (piece_at-some m next lengths p used)
+    pub put_adds : concat (parts_in w (walk next free (pages_of (length bytes))) (length bytes)) ≡ bytes → Adds (held m next lengths) (suc free) bytes (held w next (set lengths free (length bytes)))
+    put_adds here = record {
+      here =
+          bytes_at-held w next (set lengths free (length bytes)) free after.lengths_length
+          ∙ piece_at-some w next (set lengths free (length bytes)) free (omega (arith, length_here))
+          ∙ ap Some (ap (λ n. concat (parts_in w (walk next free (pages_of n)) n)) length_here ∙ here);
+      fresh = λ _. bytes_at-held m next lengths free sound.lengths_length ∙ piece_at-none m next lengths free first_unused;
+      others = other;
+      pages = refl;
+      room =
+          omega (
+            arith,
+            spare-held m next lengths free left sound,
+            spare-held w next (set lengths free (length bytes)) (page_after next free (pages_of (length bytes))) (left - pages_of (length bytes)) after,
+            enough,
+          );
+    }
+      where
+        after : IsSound w next (set lengths free (length bytes)) (page_after next free (pages_of (length bytes))) (left - pages_of (length bytes))
+        after = put_sound
 
-      other : (span : ℕ) → span ≢ suc free → bytes_at (held w next (set lengths free (length bytes))) span ≡ bytes_at (held m next lengths) span
-      other zero apart = refl
-      other (suc p) apart =
-          bytes_at-held w next (set lengths free (length bytes)) p after.lengths_length
-          ∙ stays p (λ e. apart (ap suc e)) (cases_lt 0 (slice_index lengths p))
-          ∙ sym (bytes_at-held m next lengths p sound.lengths_length)
+        stays : (p : ℕ) → p ≢ free → (0 < slice_index lengths p) ⊎ (slice_index lengths p ≤ 0) → piece_at w next (set lengths free (length bytes)) p ≡ piece_at m next lengths p
+        stays p apart (inr none) =
+            piece_at-none w next (set lengths free (length bytes)) p (omega (arith, length_other p apart))
+            ∙ sym (piece_at-none m next lengths p (omega arith))
+        stays p apart (inl used) =
+            piece_at-some w next (set lengths free (length bytes)) p (omega (arith, length_other p apart))
+            ∙ ap Some
+            (ap (λ n. concat (parts_in w (walk next p (pages_of n)) n)) (length_other p apart)
+            ∙ ap concat
+            (parts_in-agree w m (pages_from next lengths p) (slice_index lengths p)
+            (λ page stands.
+            let below = begins_below m next lengths free left sound p used in
+            writes.others page (omega (arith, free_split page, free_or_used m next lengths free left sound page p below stands))
+            (used_written m next lengths free left sound p below page stands))))
+            ∙ sym (piece_at-some m next lengths p used)
+
+        other : (span : ℕ) → span ≢ suc free → bytes_at (held w next (set lengths free (length bytes))) span ≡ bytes_at (held m next lengths) span
+        other zero apart = refl
+        other (suc p) apart =
+            bytes_at-held w next (set lengths free (length bytes)) p after.lengths_length
+            ∙ stays p (λ e. apart (ap suc e)) (cases_lt 0 (slice_index lengths p))
+            ∙ sym (bytes_at-held m next lengths p sound.lengths_length)

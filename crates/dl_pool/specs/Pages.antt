@@ -1,6 +1,6 @@
 -- How a pool keeps its pieces: each page names the page after it, a piece is a chain of pages from its first one on, and the
 -- free pages are a chain too.
-use Rattle.std.specs.Prelude.{◌≡◌, ℕ, zero, suc, ◌+◌, ◌-◌, ◌*◌, ◌<◌, ◌^◌, min, List, [], ◌∷◌, length, sum_by, count_by, take, drop, ◌==◌, nat_lt, if◌then◌else◌, slice_index}
+use Rattle.std.specs.Prelude.{◌≡◌, ℕ, zero, suc, ◌+◌, ◌-◌, ◌*◌, ◌<◌, ◌≤◌, ◌^◌, min, List, [], ◌∷◌, length, sum_by, count_by, take, drop, ◌==◌, nat_lt, if◌then◌else◌, slice_index}
 use Rattle.std.specs.List.{concat, flat_map}
 use Rattle.dl_types.specs.Ensembles.{upto}
 use Rattle.dl_pool.specs.Pools.{Held, pages_of}
@@ -22,6 +22,19 @@ times page chain = count_by (λ x. x == page) chain
 -- the bytes of a page
 abbrev pub page_bytes : List ℕ → ℕ → List ℕ
 page_bytes memory page = take 4096 (drop (page * 4096) memory)
+
+-- the memory reaches to the end of a page: it grows with the pages that are used for the first time
+abbrev pub HasPage : List ℕ → ℕ → Type 0
+HasPage memory page = page * 4096 + 4096 ≤ length memory
+
+-- the memory has each page of a chain
+abbrev pub HasPages : List ℕ → List ℕ → Type 0
+HasPages memory chain = (page : ℕ) → 0 < times page chain → HasPage memory page
+
+-- pages of a chain were written: the memory is not shorter, and each other page that it had is as before
+pub record WritesPages (before after chain : List ℕ) : Type 0 where
+  pub longer : length before ≤ length after
+  pub others : (page : ℕ) → times page chain ≡ 0 → HasPage before page → page_bytes after page ≡ page_bytes before page
 
 -- the parts of so many bytes that lie in a chain, page by page
 abbrev pub parts_in : List ℕ → List ℕ → ℕ → List (List ℕ)
@@ -53,15 +66,20 @@ times_used next lengths page = sum_by (λ first. times page (pages_from next len
 abbrev pub pages_used : List ℕ → ℕ → ℕ
 pages_used lengths pages = sum_by (λ first. pages_of (slice_index lengths first)) (upto pages)
 
--- the tables fit: each page stands once, in one chain, and no chain has another page
+-- the tables fit: each page stands once, in one chain, no chain has another page, and the memory has the pages of all pieces
 pub record IsSound (memory next lengths : List ℕ) (free spare : ℕ) : Type 0 where
-  pub memory_length : length memory ≡ length next * 4096
+  pub written : (page : ℕ) → 0 < times_used next lengths page → HasPage memory page
   pub lengths_length : length lengths ≡ length next
   pub few : length next < 2 ^ 32
   pub counted : spare + pages_used lengths (length next) ≡ length next
   pub once : (page : ℕ) → times page (walk next free spare) + times_used next lengths page ≡ (if nat_lt page (length next) then 1 else 0)
 
+-- the tables fit, and the memory has room for all pages
+pub record IsKept (memory : List ℕ) (capacity : ℕ) (next lengths : List ℕ) (free spare : ℕ) : Type 0 where
+  pub room : length next * 4096 ≤ capacity
+  pub sound : IsSound memory next lengths free spare
+
 -- the pages of so many bytes, from this page on, can be read
 pub record IsReadable (memory next : List ℕ) (page bytes : ℕ) : Type 0 where
-  pub memory_length : length memory ≡ length next * 4096
+  pub written : HasPages memory (walk next page (pages_of bytes))
   pub within : (q : ℕ) → 0 < times q (walk next page (pages_of bytes)) → q < length next

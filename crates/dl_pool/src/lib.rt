@@ -8,3 +8,5 @@ pub mod pool_full;
 pub mod span;
 #[cfg(test)]
 mod tests;
+
+pub use pages::{PAGE, pages_of};

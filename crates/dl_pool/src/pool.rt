@@ -16,7 +16,8 @@ use std::marker::Model;
 /// are one piece, which needs no page and is always there.
 #[derive(Drop)]
 pub struct Pool {
-    /// The bytes of all pages, in order.
+    /// The bytes of the pages in order, up to the last one that was ever used. There is room for all pages from the start,
+    /// and a page is written when it is first used.
     memory: Vec<u8>,
     /// For each page the one after it, in its piece or among the free ones.
     next: Vec<u32>,
@@ -29,14 +30,15 @@ pub struct Pool {
 }
 
 impl Model for Pool {
+    ghost use Rattle.std.specs.Prelude.{vec_capacity};
     ghost use Rattle.dl_pool.specs.Pools.{Held};
-    ghost use Rattle.dl_pool.specs.Pages.{held, IsSound};
+    ghost use Rattle.dl_pool.specs.Pages.{held, IsKept};
 
     ghost Value = { Held };
 
     ghost view = { λ p. held p.memory.items p.next.items p.lengths.items };
 
-    ghost invariant = { λ p. IsSound p.memory.items p.next.items p.lengths.items p.free p.spare };
+    ghost invariant = { λ p. IsKept p.memory.items (vec_capacity p.memory) p.next.items p.lengths.items p.free p.spare };
 }
 
 /// The numbers from 1 on, so many.
@@ -56,7 +58,7 @@ impl Pool {
     pub fn new(alloc: Global, pages: u32) -> Result<Pool, NoMemory>
         ensures { IfOk result (λ p. p ≡ nothing_held pages) }
     {
-        let memory = vec![in alloc; 0u8; pages as usize * PAGE]?;
+        let memory = Vec::with_capacity(alloc, pages as usize * PAGE)?;
         let next = numbers_from_one(alloc, pages)?;
         let lengths = vec![in alloc; 0usize; pages as usize]?;
         Ok(Pool {

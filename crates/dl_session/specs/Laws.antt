@@ -1,5 +1,5 @@
 -- What holds of sessions over whole runs.
-use Rattle.std.specs.Prelude.{◌≡◌, ℕ, ◌≤◌, false, List, [], ◌∷◌, Some}
+use Rattle.std.specs.Prelude.{◌≡◌, ◌≢◌, ℕ, ◌≤◌, false, List, [], ◌∷◌, Some}
 use Rattle.dl_session.specs.declared.admit.Admit.TheVariants.{Run}
 use Rattle.dl_session.specs.Sessions.{Known, connected, expired, ran, is_live, number_in, admits}
 
@@ -28,3 +28,16 @@ GoneIsGone = (s : Known) (session : ℕ) (xs : List Change) → session ≤ s.la
 abbrev pub RunsOnce : Type 0
 RunsOnce = (s : Known) (session number : ℕ) → admits (number_in s.live session) number ≡ Run
     → (number_in (ran s session number).live session ≡ Some number) × ((other : ℕ) → (other ≡ session → ⊥) → number_in (ran s session number).live other ≡ number_in s.live other)
+
+-- each number that runs in these changes is admitted where it runs
+abbrev pub AreAdmitted : Known → List Change → Type 0
+AreAdmitted s [] = Unit {0}
+AreAdmitted s (Connects ∷ xs) = AreAdmitted (connected s) xs
+AreAdmitted s (Expires session ∷ xs) = AreAdmitted (expired s session) xs
+AreAdmitted s (Runs session number ∷ xs) = (admits (number_in s.live session) number ≡ Run) × AreAdmitted (ran s session number) xs
+
+-- A number of a given session that ran is never admitted again, whatever changes come after it: sessions that are opened
+-- or end, and requests of any session that are admitted and run.
+abbrev pub NeverAgain : Type 0
+NeverAgain = (s : Known) (session number : ℕ) (xs : List Change) → session ≤ s.last → admits (number_in s.live session) number ≡ Run
+    → AreAdmitted (ran s session number) xs → admits (number_in (after (ran s session number) xs).live session) number ≢ Run

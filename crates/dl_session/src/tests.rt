@@ -1,5 +1,5 @@
 use crate::admit::Admit;
-use crate::laws::{gone_is_gone, runs_once};
+use crate::laws::{gone_is_gone, never_again, runs_once};
 use crate::sessions::Sessions;
 use std::test::Fail;
 
@@ -15,6 +15,7 @@ fn number_of(sessions: &Sessions, session: u64) -> u32 {
 fn sessions_are_given_once_and_numbers_rise(rt: HostRuntime) -> Result<(), Fail> {
     gone_is_gone();
     runs_once();
+    never_again();
     let mut sessions = Sessions::new(rt.alloc())?;
     assert_eq!(rt; sessions.last(), 0);
     assert!(rt; sessions.last() < 10);

@@ -1,8 +1,12 @@
-use Rattle.std.proofs.Common.{◌+◌, ◌-◌, ◌*◌, length, arith}
-use Rattle.dl_pool.proofs.PageLemmas.{page_bytes-other}
+use Rattle.std.proofs.Common.{[], ◌∷◌, length, take, sym, ap, ◌∙◌, subst}
+use Rattle.std.proofs.lemmas.List.{with_items_is}
+use Rattle.dl_pool.specs.Pages.{WritesPages}
+use Rattle.dl_pool.proofs.PageLemmas.{page_written}
 use Rattle.dl_pool.proofs.pages.write_page.Goals as goal
 
-pub returns-clause-others : goal.returns-clause-others
-returns-clause-others c other apart =
-    page_bytes-other c.args.page other (c.args.page * 4096 + length c.args.part.now - c.args.page * 4096) c.args.memory.now c.copy_from_slice.new.self
-    c.requires.within (omega (arith, c.copy_from_slice.ensures.len)) (omega (arith, c.requires.part)) apart
+pub returns-clause-writes : goal.returns-clause-writes
+returns-clause-writes c =
+    let old = c.args.memory.now.items in
+    let size = c.overwrite_page.auto.memory in
+    subst (λ w. WritesPages old w (c.args.page ∷ [])) (sym (with_items_is c.reach.new.memory c.overwrite_page.new.memory (size ∙ c.deref_mut.ensures.len)))
+    (page_written old c.deref_mut.result.now c.overwrite_page.new.memory c.args.page (ap (take (length old)) c.deref_mut.ensures.value ∙ c.reach.ensures.kept) size c.overwrite_page.ensures.others)

@@ -1,4 +1,4 @@
-use Rattle.std.proofs.Common.{◌-◌, ◌<◌, ◌∷◌, length, slice_index, sym, ◌∙◌, ap, arith}
+use Rattle.std.proofs.Common.{◌-◌, ◌∷◌, length, slice_index, sym, ◌∙◌, ap, arith}
 use Rattle.dl_pool.specs.Pools.{pages_of}
 use Rattle.dl_pool.specs.Pages.{walk, parts_in}
 use Rattle.dl_pool.proofs.ReadLemmas.{no_parts, first_readable, rest_readable, parts_step}
@@ -9,11 +9,10 @@ returns-then-self-eq0-clause-steps c =
     let none = sym c.self.view_is ∙ no_parts c.self.inside.memory.now c.self.inside.links.now c.self.inside.page c.self.inside.left c.if-self-eq0.true in
     (none, none)
 
-pub read_page-part-requires-clause-within : goal.read_page-part-requires-clause-within
-read_page-part-requires-clause-within c =
-    let inside : c.self.inside.page < length c.self.inside.links.now =
-    first_readable c.self.inside.memory.now c.self.inside.links.now c.self.inside.page c.self.inside.left c.self.invariant (omega (arith, c.if-self-eq0.false)) in
-    omega (arith, inside, c.self.invariant.memory_length)
+-- the page that comes next
+pub read_page-part-requires-clause-page : goal.read_page-part-requires-clause-page
+read_page-part-requires-clause-page c =
+    (first_readable c.self.inside.memory.now c.self.inside.links.now c.self.inside.page c.self.inside.left c.self.invariant (omega (arith, c.if-self-eq0.false))).1
 
 pub invariant_of-self : goal.invariant_of-self
 invariant_of-self c =
@@ -39,4 +38,4 @@ returns-clause-goes c =
 
 pub bounds-self-inside-self-inside : goal.bounds-self-inside-self-inside
 bounds-self-inside-self-inside c =
-    first_readable c.self.inside.memory.now c.self.inside.links.now c.self.inside.page c.self.inside.left c.self.invariant (omega (arith, c.if-self-eq0.false))
+    (first_readable c.self.inside.memory.now c.self.inside.links.now c.self.inside.page c.self.inside.left c.self.invariant (omega (arith, c.if-self-eq0.false))).0

@@ -12,11 +12,12 @@ zeros n xs same k = ap (λ ys. slice_index ys k) same ∙ go (cases_lt k n)
     go (inr past) = get_or_past (replicate n 0) k 0 (omega (arith, length-replicate {A = ℕ} n 0))
 
 pub invariant_of-result : goal.invariant_of-result
-invariant_of-result c =
-    new_sound c.in_ok-next.next.items c.args.pages c.in_ok-next.ensures.each c.in_ok-memory.memory.items c.in_ok-lengths.lengths.items
-    (zeros c.args.pages c.in_ok-lengths.lengths.items (c.in_ok-lengths.ensures.items_if_clones_equal (λ y e. e)))
-    c.in_ok-next.ensures.size
-    (omega (arith, c.in_ok-memory.ensures.len, c.in_ok-memory.memory.ok)) (omega (arith, c.in_ok-lengths.ensures.len, c.in_ok-lengths.lengths.ok)) (omega arith)
+invariant_of-result c = record {
+  room = omega (arith, c.in_ok-memory.ensures.exact, c.in_ok-next.ensures.size);
+  sound = new_sound c.in_ok-next.next.items c.args.pages c.in_ok-next.ensures.each c.in_ok-memory.memory.items c.in_ok-lengths.lengths.items
+      (zeros c.args.pages c.in_ok-lengths.lengths.items (c.in_ok-lengths.ensures.items_if_clones_equal (λ y e. e)))
+      c.in_ok-next.ensures.size (omega (arith, c.in_ok-lengths.ensures.len, c.in_ok-lengths.lengths.ok)) (omega arith);
+}
 
 pub returns : goal.returns
 returns c =

@@ -4,4 +4,4 @@ use Rattle.dl_pool.proofs.SoundLemmas.{spare-held}
 use Rattle.dl_pool.proofs.pool.Pool.spare.Goals as goal
 
 pub returns : goal.returns
-returns c = sym (spare-held _ _ _ _ _ c.self.invariant) ∙ ap spare c.self.view_is
+returns c = sym (spare-held _ _ _ _ _ c.self.invariant.sound) ∙ ap spare c.self.view_is
