@@ -5,8 +5,8 @@ use Rattle.std.specs.Int.{w8}
 use Rattle.std.proofs.lemmas.Bool.{eqb-true}
 use Rattle.std.proofs.lemmas.List.{drop_more}
 use Rattle.dl_codec.specs.Fields.{field}
-use Rattle.dl_fields.specs.declared.stop.Stop.{Stop}
-use Rattle.dl_fields.specs.declared.stop.Stop.TheVariants.{Bad}
+use Rattle.dl_fields.specs.declared.fault.Fault.{Fault}
+use Rattle.dl_fields.specs.declared.fault.Fault.TheVariants.{Bad}
 use Rattle.dl_fields.specs.Readers.{Exact, IsWithin}
 use Rattle.dl_fields.specs.Fields.{number_from}
 use Rattle.dl_fields.specs.Codes.{coded, known, code_from, code_byte}
@@ -26,9 +26,9 @@ known_ok : {K : Type 0} (o : Option K) (size : ℕ) (rest : List ℕ) (y : K × 
 known_ok {K} (Some k) size rest y e = let p : (k, rest) ≡ y = ok_is (k, rest) y e in (ap (λ (x : K × List ℕ). Some x.0) p, ap (λ (x : K × List ℕ). x.1) p)
 known_ok None size rest y e = absurd cc
 
-known_err : {K : Type 0} (o : Option K) (size : ℕ) (rest : List ℕ) (stop : Stop) → known o size rest ≡ Err stop → Bad size ≡ stop
-known_err (Some k) size rest stop e = absurd cc
-known_err {K} None size rest stop e = err_is {A = K × List ℕ} (Bad size) stop e
+known_err : {K : Type 0} (o : Option K) (size : ℕ) (rest : List ℕ) (fault : Fault) → known o size rest ≡ Err fault → Bad size ≡ fault
+known_err (Some k) size rest fault e = absurd cc
+known_err {K} None size rest fault e = err_is {A = K × List ℕ} (Bad size) fault e
 
 -- Values that are found by their codes are read exactly.
 pub codes_exact : {K : Type 0} (code : K → ℕ) (ks : List K) → ((k : K) → Contains ks k → coded code ks (code k) ≡ Some k) → ((k : K) → Contains ks k → code k < 256) → Exact (Contains ks) (code_byte code) (code_from code ks)
@@ -40,9 +40,9 @@ codes_exact {K} code ks each small = record {
       let f = u8_exact.found bytes u.0.0 u.0.1 fits u.1 in
       (i.0, f.1 ∙ ap (λ (n : ℕ). field w8 n ++ u.0.1) (sym i.1) ∙ ap (λ (l : List ℕ). field w8 (code k) ++ l) g.1);
   again = λ k rest v. rw (u8_exact.again (code k) rest (small k v)) (rw (each k v) refl);
-  within = λ bytes stop fits e. elim (bind_err (number_from w8 bytes) (λ (x : ℕ × List ℕ). known (coded code ks x.0) (length bytes) x.1) stop e) [
-    | inl h ↦ u8_exact.within bytes stop fits h
-    | inr w ↦ subst (IsWithin (length bytes)) (known_err (coded code ks w.0.0) (length bytes) w.0.1 stop w.2) (let le : length bytes ≤ length bytes = omega arith in le)
+  within = λ bytes fault fits e. elim (bind_err (number_from w8 bytes) (λ (x : ℕ × List ℕ). known (coded code ks x.0) (length bytes) x.1) fault e) [
+    | inl h ↦ u8_exact.within bytes fault fits h
+    | inr w ↦ subst (IsWithin (length bytes)) (known_err (coded code ks w.0.0) (length bytes) w.0.1 fault w.2) (let le : length bytes ≤ length bytes = omega arith in le)
   ];
 }
 

@@ -5,8 +5,8 @@ use Rattle.std.proofs.lemmas.Bool.{leb-true, le-leb, cases_lt}
 use Rattle.std.proofs.lemmas.List.{take_at, drop_at, take-append-drop, length-take-le, length-take, get_or-take, get_or_past}
 use Rattle.dl_codec.specs.Fields.{field, number_of, IsBytes, HasOneSpelling}
 use Rattle.dl_codec.proofs.FieldLaws.{width_8, width_16, width_32, width_64}
-use Rattle.dl_fields.specs.declared.stop.Stop.{Stop}
-use Rattle.dl_fields.specs.declared.stop.Stop.TheVariants.{Short}
+use Rattle.dl_fields.specs.declared.fault.Fault.{Fault}
+use Rattle.dl_fields.specs.declared.fault.Fault.TheVariants.{Short}
 use Rattle.dl_fields.specs.Readers.{Exact, IsWithin}
 use Rattle.dl_fields.specs.Fields.{run_from, number_from, Fits, counted_from, counted, IsCounted}
 use Rattle.dl_fields.specs.Laws.{WidthIsExact}
@@ -28,7 +28,7 @@ record RunRead (n : ℕ) (bytes run rest : List ℕ) : Type 0 where
 run_read : (n : ℕ) (bytes run rest : List ℕ) → run_from n bytes ≡ Ok (run, rest) → RunRead n bytes run rest
 run_read n bytes run rest e = go (leb n (length bytes)) refl e
   where
-    go : (t : Bool) → leb n (length bytes) ≡ t → cond {A = Result (List ℕ × List ℕ) Stop} t (Ok (take n bytes, drop n bytes)) (Err (Short (length bytes))) ≡ Ok (run, rest) → RunRead n bytes run rest
+    go : (t : Bool) → leb n (length bytes) ≡ t → cond {A = Result (List ℕ × List ℕ) Fault} t (Ok (take n bytes, drop n bytes)) (Err (Short (length bytes))) ≡ Ok (run, rest) → RunRead n bytes run rest
     go true t h =
         let p : (take n bytes, drop n bytes) ≡ (run, rest) = ok_is (take n bytes, drop n bytes) (run, rest) h in
         let P : List ℕ × List ℕ → Type 0 = λ x. RunRead n bytes x.0 x.1 in
@@ -40,19 +40,19 @@ run_again run rest =
     let long : length run ≤ length (run ++ rest) = omega (arith, length-append run rest) in
     rw (le-leb (length run) (length (run ++ rest)) long) (rw (take_at run rest (length run) refl) (rw (drop_at run rest (length run) refl) refl))
 
-run_stops : (n : ℕ) (bytes : List ℕ) (stop : Stop) → run_from n bytes ≡ Err stop → Short (length bytes) ≡ stop
-run_stops n bytes stop e = go (leb n (length bytes)) refl e
+run_stops : (n : ℕ) (bytes : List ℕ) (fault : Fault) → run_from n bytes ≡ Err fault → Short (length bytes) ≡ fault
+run_stops n bytes fault e = go (leb n (length bytes)) refl e
   where
-    go : (t : Bool) → leb n (length bytes) ≡ t → cond {A = Result (List ℕ × List ℕ) Stop} t (Ok (take n bytes, drop n bytes)) (Err (Short (length bytes))) ≡ Err stop → Short (length bytes) ≡ stop
+    go : (t : Bool) → leb n (length bytes) ≡ t → cond {A = Result (List ℕ × List ℕ) Fault} t (Ok (take n bytes, drop n bytes)) (Err (Short (length bytes))) ≡ Err fault → Short (length bytes) ≡ fault
     go true t h = absurd cc
-    go false t h = err_is {A = List ℕ × List ℕ} (Short (length bytes)) stop h
+    go false t h = err_is {A = List ℕ × List ℕ} (Short (length bytes)) fault h
 
 -- a run of so many bytes; it is not said here that they are bytes
 pub run_exact : (n : ℕ) → Exact (λ run. length run ≡ n) (λ run. run) (run_from n)
 run_exact n = record {
   found = λ bytes run rest fits e. let r = run_read n bytes run rest e in (r.size, r.parts);
   again = λ run rest v. subst (λ k. run_from k (run ++ rest) ≡ Ok (run, rest)) v (run_again run rest);
-  within = λ bytes stop fits e. subst (IsWithin (length bytes)) (run_stops n bytes stop e) (let le : length bytes ≤ length bytes = omega arith in le);
+  within = λ bytes fault fits e. subst (IsWithin (length bytes)) (run_stops n bytes fault e) (let le : length bytes ≤ length bytes = omega arith in le);
 }
 
 -- A number of a width that has one spelling.
@@ -69,9 +69,9 @@ number_exact w law = record {
   again = λ n rest v.
       let read : run_from (byte_len w) (field w n ++ rest) ≡ Ok (field w n, rest) = subst (λ k. run_from k (field w n ++ rest) ≡ Ok (field w n, rest)) (law.len n) (run_again (field w n) rest) in
       rw read (rw (law.again n v) refl);
-  within = λ bytes stop fits e. elim (bind_err (run_from (byte_len w) bytes) (λ (y : List ℕ × List ℕ). Ok (number_of w y.0, y.1)) stop e) [
-    | inl h ↦ (run_exact (byte_len w)).within bytes stop fits h
-    | inr z ↦ absurd (let wrong : Ok (number_of w z.0.0, z.0.1) ≡ Err stop = z.2 in cc)
+  within = λ bytes fault fits e. elim (bind_err (run_from (byte_len w) bytes) (λ (y : List ℕ × List ℕ). Ok (number_of w y.0, y.1)) fault e) [
+    | inl h ↦ (run_exact (byte_len w)).within bytes fault fits h
+    | inr z ↦ absurd (let wrong : Ok (number_of w z.0.0, z.0.1) ≡ Err fault = z.2 in cc)
   ];
 }
 

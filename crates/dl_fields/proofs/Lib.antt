@@ -1,5 +1,9 @@
 pub mod ReaderLemmas
 pub mod FieldLemmas
 pub mod CodeLemmas
+pub mod KindLemmas
 pub mod ListLemmas
+pub mod ItemLemmas
 pub mod PathLemmas
+pub mod DigitLemmas
+pub mod SizeLemmas

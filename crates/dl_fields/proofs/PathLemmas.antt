@@ -5,7 +5,7 @@ use Rattle.std.specs.Int.{w16}
 use Rattle.std.proofs.lemmas.Bool.{eqb-true, cases_eq, ne_eqb}
 use Rattle.std.proofs.lemmas.Bool.Decides.{nat_tests}
 use Rattle.dl_codec.specs.Fields.{field}
-use Rattle.dl_fields.specs.declared.stop.Stop.{Stop}
+use Rattle.dl_fields.specs.declared.fault.Fault.{Fault}
 use Rattle.dl_fields.specs.Readers.{Exact}
 use Rattle.dl_fields.specs.Fields.{counted_from, counted, IsCounted}
 use Rattle.dl_fields.specs.Paths.{is_part_byte, IsPart, joined, IsPath, flaw_behind, path_flaw, part_flaw, some_from, path_from, name_from, is_stem, stem_from, IsPathField, IsStemField}
@@ -142,7 +142,7 @@ part_back (c ∷ cs) n back e = go (is_part_byte c && ltb n 80) e (part_back cs 
 -- the readers
 
 -- a reader that is exact for one condition is exact for another that says the same
-pub exact_as : {A : Type 0} {V W : A → Type 0} {p : A → List ℕ} {r : List ℕ → Result (A × List ℕ) Stop} → Exact V p r → ((a : A) → V a → W a) → ((a : A) → W a → V a) → Exact W p r
+pub exact_as : {A : Type 0} {V W : A → Type 0} {p : A → List ℕ} {r : List ℕ → Result (A × List ℕ) Fault} → Exact V p r → ((a : A) → V a → W a) → ((a : A) → W a → V a) → Exact W p r
 exact_as exact to from = record {
   found = λ bytes a rest fits e. let f = exact.found bytes a rest fits e in (to a f.0, f.1);
   again = λ a rest w. exact.again a rest (from a w);

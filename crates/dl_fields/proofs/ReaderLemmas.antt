@@ -3,24 +3,24 @@ use Rattle.std.proofs.Common.{◌≡◌, ℕ, ◌+◌, ◌≤◌, ◌<◌, Bool,
 use Rattle.std.proofs.lemmas.Bool.{eqb-true}
 use Rattle.std.proofs.lemmas.List.{append-nil, nil_from_length, get_or-drop, drop_at}
 use Rattle.dl_codec.specs.Fields.{IsBytes}
-use Rattle.dl_fields.specs.declared.stop.Stop.{Stop}
-use Rattle.dl_fields.specs.declared.stop.Stop.TheVariants.{NoMemory, Short, Bad, Long}
+use Rattle.dl_fields.specs.declared.fault.Fault.{Fault}
+use Rattle.dl_fields.specs.declared.fault.Fault.TheVariants.{Short, Bad, Long}
 use Rattle.dl_fields.specs.Readers.{◌>>=◌, then_from, map_from, passed, passing, judged, flawless, ended, whole_from, IsWithin, Exact}
 
--- steps that may stop
+-- steps that may fault
 
-pub bind_ok : {A B : Type 0} (r : Result A Stop) (f : A → Result B Stop) (y : B) → (r >>= f) ≡ Ok y → (x : A) × (r ≡ Ok x) × (f x ≡ Ok y)
+pub bind_ok : {A B : Type 0} (r : Result A Fault) (f : A → Result B Fault) (y : B) → (r >>= f) ≡ Ok y → (x : A) × (r ≡ Ok x) × (f x ≡ Ok y)
 bind_ok (Ok x) f y e = (x, refl, e)
 bind_ok (Err d) f y e = absurd cc
 
-pub bind_err : {A B : Type 0} (r : Result A Stop) (f : A → Result B Stop) (stop : Stop) → (r >>= f) ≡ Err stop → (r ≡ Err stop) ⊎ ((x : A) × (r ≡ Ok x) × (f x ≡ Err stop))
-bind_err (Ok x) f stop e = inr (x, refl, e)
-bind_err (Err d) f stop e = inl cc
+pub bind_err : {A B : Type 0} (r : Result A Fault) (f : A → Result B Fault) (fault : Fault) → (r >>= f) ≡ Err fault → (r ≡ Err fault) ⊎ ((x : A) × (r ≡ Ok x) × (f x ≡ Err fault))
+bind_err (Ok x) f fault e = inr (x, refl, e)
+bind_err (Err d) f fault e = inl cc
 
-pub ok_is : {A : Type 0} (x y : A) → (let r : Result A Stop = Ok x in r) ≡ Ok y → x ≡ y
+pub ok_is : {A : Type 0} (x y : A) → (let r : Result A Fault = Ok x in r) ≡ Ok y → x ≡ y
 ok_is x y e = cc
 
-pub err_is : {A : Type 0} (x y : Stop) → (let r : Result A Stop = Err x in r) ≡ Err y → x ≡ y
+pub err_is : {A : Type 0} (x y : Fault) → (let r : Result A Fault = Err x in r) ≡ Err y → x ≡ y
 err_is x y e = cc
 
 -- what stands behind a field is bytes too
@@ -31,8 +31,7 @@ bytes_behind front rest bytes e fits i =
     let here : slice_index (drop (length front) bytes) i < 256 = rw get_or-drop (fits (length front + i)) in
     subst (λ (l : List ℕ). slice_index l i < 256) same here
 
-pub within_more : (n m : ℕ) (stop : Stop) → n ≤ m → IsWithin n stop → IsWithin m stop
-within_more n m NoMemory le w = w
+pub within_more : (n m : ℕ) (fault : Fault) → n ≤ m → IsWithin n fault → IsWithin m fault
 within_more n m (Short left) le w = omega (arith, le, w)
 within_more n m (Bad left) le w = omega (arith, le, w)
 within_more n m (Long left) le w = omega (arith, le, w)
@@ -48,7 +47,7 @@ print_both p q x = p x.0 ++ q x.0 x.1
 joins : (bytes front rest more end : List ℕ) → bytes ≡ front ++ rest → rest ≡ more ++ end → bytes ≡ (front ++ more) ++ end
 joins bytes front rest more end e f = e ∙ ap (λ (l : List ℕ). front ++ l) f ∙ sym (append_assoc front more end)
 
-then_found : {A B : Type 0} (V : A → Type 0) (p : A → List ℕ) (r : List ℕ → Result (A × List ℕ) Stop) (W : A → B → Type 0) (q : A → B → List ℕ) (s : A → List ℕ → Result (B × List ℕ) Stop) → Exact V p r → ((a : A) → V a → Exact (W a) (q a) (s a)) → (bytes : List ℕ) (x : A × B) (rest : List ℕ) → IsBytes bytes → then_from r s bytes ≡ Ok (x, rest) → Both V W x × (bytes ≡ print_both p q x ++ rest)
+then_found : {A B : Type 0} (V : A → Type 0) (p : A → List ℕ) (r : List ℕ → Result (A × List ℕ) Fault) (W : A → B → Type 0) (q : A → B → List ℕ) (s : A → List ℕ → Result (B × List ℕ) Fault) → Exact V p r → ((a : A) → V a → Exact (W a) (q a) (s a)) → (bytes : List ℕ) (x : A × B) (rest : List ℕ) → IsBytes bytes → then_from r s bytes ≡ Ok (x, rest) → Both V W x × (bytes ≡ print_both p q x ++ rest)
 then_found {A} {B} V p r W q s first second bytes x rest fits e =
     let u = bind_ok (r bytes) (λ (y : A × List ℕ). s y.0 y.1 >>= λ z. Ok ((y.0, z.0), z.1)) (x, rest) e in
     let v = bind_ok (s u.0.0 u.0.1) (λ (z : B × List ℕ). Ok ((u.0.0, z.0), z.1)) (x, rest) u.2 in
@@ -58,27 +57,27 @@ then_found {A} {B} V p r W q s first second bytes x rest fits e =
     let whole : bytes ≡ print_both p q made.0 ++ v.0.1 = joins bytes (p u.0.0) u.0.1 (q u.0.0 v.0.0) v.0.1 f.1 g.1 in
     subst (λ (m : (A × B) × List ℕ). Both V W m.0 × (bytes ≡ print_both p q m.0 ++ m.1)) (ok_is made (x, rest) v.2) ((f.0, g.0), whole)
 
-then_again : {A B : Type 0} (V : A → Type 0) (p : A → List ℕ) (r : List ℕ → Result (A × List ℕ) Stop) (W : A → B → Type 0) (q : A → B → List ℕ) (s : A → List ℕ → Result (B × List ℕ) Stop) → Exact V p r → ((a : A) → V a → Exact (W a) (q a) (s a)) → (x : A × B) (rest : List ℕ) → Both V W x → then_from r s (print_both p q x ++ rest) ≡ Ok (x, rest)
+then_again : {A B : Type 0} (V : A → Type 0) (p : A → List ℕ) (r : List ℕ → Result (A × List ℕ) Fault) (W : A → B → Type 0) (q : A → B → List ℕ) (s : A → List ℕ → Result (B × List ℕ) Fault) → Exact V p r → ((a : A) → V a → Exact (W a) (q a) (s a)) → (x : A × B) (rest : List ℕ) → Both V W x → then_from r s (print_both p q x ++ rest) ≡ Ok (x, rest)
 then_again V p r W q s first second x rest valid =
     ap (then_from r s) (append_assoc (p x.0) (q x.0 x.1) rest)
     ∙ rw (first.again x.0 (q x.0 x.1 ++ rest) valid.0) (rw ((second x.0 valid.0).again x.1 rest valid.1) refl)
 
-then_stops : {A B : Type 0} (r : List ℕ → Result (A × List ℕ) Stop) (s : A → List ℕ → Result (B × List ℕ) Stop) (bytes : List ℕ) (stop : Stop) → then_from r s bytes ≡ Err stop → (r bytes ≡ Err stop) ⊎ ((y : A × List ℕ) × (r bytes ≡ Ok y) × (s y.0 y.1 ≡ Err stop))
-then_stops {A} {B} r s bytes stop e = elim (bind_err (r bytes) (λ (y : A × List ℕ). s y.0 y.1 >>= λ z. Ok ((y.0, z.0), z.1)) stop e) [
+then_stops : {A B : Type 0} (r : List ℕ → Result (A × List ℕ) Fault) (s : A → List ℕ → Result (B × List ℕ) Fault) (bytes : List ℕ) (fault : Fault) → then_from r s bytes ≡ Err fault → (r bytes ≡ Err fault) ⊎ ((y : A × List ℕ) × (r bytes ≡ Ok y) × (s y.0 y.1 ≡ Err fault))
+then_stops {A} {B} r s bytes fault e = elim (bind_err (r bytes) (λ (y : A × List ℕ). s y.0 y.1 >>= λ z. Ok ((y.0, z.0), z.1)) fault e) [
   | inl h ↦ inl h
-  | inr w ↦ elim (bind_err (s w.0.0 w.0.1) (λ (z : B × List ℕ). Ok ((w.0.0, z.0), z.1)) stop w.2) [ inl h ↦ inr (w.0, w.1, h) | inr z ↦ absurd (let wrong : Ok ((w.0.0, z.0.0), z.0.1) ≡ Err stop = z.2 in cc) ]
+  | inr w ↦ elim (bind_err (s w.0.0 w.0.1) (λ (z : B × List ℕ). Ok ((w.0.0, z.0), z.1)) fault w.2) [ inl h ↦ inr (w.0, w.1, h) | inr z ↦ absurd (let wrong : Ok ((w.0.0, z.0.0), z.0.1) ≡ Err fault = z.2 in cc) ]
 ]
 
-then_within : {A B : Type 0} (V : A → Type 0) (p : A → List ℕ) (r : List ℕ → Result (A × List ℕ) Stop) (W : A → B → Type 0) (q : A → B → List ℕ) (s : A → List ℕ → Result (B × List ℕ) Stop) → Exact V p r → ((a : A) → V a → Exact (W a) (q a) (s a)) → (bytes : List ℕ) (stop : Stop) → IsBytes bytes → then_from r s bytes ≡ Err stop → IsWithin (length bytes) stop
-then_within V p r W q s first second bytes stop fits e = elim (then_stops r s bytes stop e) [
-  | inl h ↦ first.within bytes stop fits h
+then_within : {A B : Type 0} (V : A → Type 0) (p : A → List ℕ) (r : List ℕ → Result (A × List ℕ) Fault) (W : A → B → Type 0) (q : A → B → List ℕ) (s : A → List ℕ → Result (B × List ℕ) Fault) → Exact V p r → ((a : A) → V a → Exact (W a) (q a) (s a)) → (bytes : List ℕ) (fault : Fault) → IsBytes bytes → then_from r s bytes ≡ Err fault → IsWithin (length bytes) fault
+then_within V p r W q s first second bytes fault fits e = elim (then_stops r s bytes fault e) [
+  | inl h ↦ first.within bytes fault fits h
   | inr w ↦ let f = first.found bytes w.0.0 w.0.1 fits w.1 in
       let less : length w.0.1 ≤ length bytes = omega (arith, ap length f.1, length-append (p w.0.0) w.0.1) in
-      within_more (length w.0.1) (length bytes) stop less ((second w.0.0 f.0).within w.0.1 stop (bytes_behind (p w.0.0) w.0.1 bytes f.1 fits) w.2)
+      within_more (length w.0.1) (length bytes) fault less ((second w.0.0 f.0).within w.0.1 fault (bytes_behind (p w.0.0) w.0.1 bytes f.1 fits) w.2)
 ]
 
 -- A field, and then one that may depend on it.
-pub then_exact : {A B : Type 0} (V : A → Type 0) (p : A → List ℕ) (r : List ℕ → Result (A × List ℕ) Stop) (W : A → B → Type 0) (q : A → B → List ℕ) (s : A → List ℕ → Result (B × List ℕ) Stop) → Exact V p r → ((a : A) → V a → Exact (W a) (q a) (s a)) → Exact (Both V W) (print_both p q) (then_from r s)
+pub then_exact : {A B : Type 0} (V : A → Type 0) (p : A → List ℕ) (r : List ℕ → Result (A × List ℕ) Fault) (W : A → B → Type 0) (q : A → B → List ℕ) (s : A → List ℕ → Result (B × List ℕ) Fault) → Exact V p r → ((a : A) → V a → Exact (W a) (q a) (s a)) → Exact (Both V W) (print_both p q) (then_from r s)
 then_exact V p r W q s first second = record {
   found = then_found V p r W q s first second;
   again = then_again V p r W q s first second;
@@ -87,7 +86,7 @@ then_exact V p r W q s first second = record {
 
 -- a field as another value
 
-made_found : {A S : Type 0} (V : A → Type 0) (p : A → List ℕ) (r : List ℕ → Result (A × List ℕ) Stop) (make : A → S) (W : S → Type 0) (q : S → List ℕ) → Exact V p r → ((a : A) → V a → W (make a) × (q (make a) ≡ p a)) → (bytes : List ℕ) (x : S) (rest : List ℕ) → IsBytes bytes → map_from make r bytes ≡ Ok (x, rest) → W x × (bytes ≡ q x ++ rest)
+made_found : {A S : Type 0} (V : A → Type 0) (p : A → List ℕ) (r : List ℕ → Result (A × List ℕ) Fault) (make : A → S) (W : S → Type 0) (q : S → List ℕ) → Exact V p r → ((a : A) → V a → W (make a) × (q (make a) ≡ p a)) → (bytes : List ℕ) (x : S) (rest : List ℕ) → IsBytes bytes → map_from make r bytes ≡ Ok (x, rest) → W x × (bytes ≡ q x ++ rest)
 made_found {A} {S} V p r make W q exact to bytes x rest fits e =
     let u = bind_ok (r bytes) (λ (y : A × List ℕ). Ok (make y.0, y.1)) (x, rest) e in
     let f = exact.found bytes u.0.0 u.0.1 fits u.1 in
@@ -96,16 +95,16 @@ made_found {A} {S} V p r make W q exact to bytes x rest fits e =
     subst (λ (m : S × List ℕ). W m.0 × (bytes ≡ q m.0 ++ m.1)) (ok_is made (x, rest) u.2) (t.0, f.1 ∙ ap (λ (l : List ℕ). l ++ u.0.1) (sym t.1))
 
 -- A field as another value, where each valid value is made of a valid field.
-pub made_exact : {A S : Type 0} (V : A → Type 0) (p : A → List ℕ) (r : List ℕ → Result (A × List ℕ) Stop) (make : A → S) (W : S → Type 0) (q : S → List ℕ) → Exact V p r → ((a : A) → V a → W (make a) × (q (make a) ≡ p a)) → ((x : S) → W x → (a : A) × V a × (make a ≡ x)) → Exact W q (map_from make r)
+pub made_exact : {A S : Type 0} (V : A → Type 0) (p : A → List ℕ) (r : List ℕ → Result (A × List ℕ) Fault) (make : A → S) (W : S → Type 0) (q : S → List ℕ) → Exact V p r → ((a : A) → V a → W (make a) × (q (make a) ≡ p a)) → ((x : S) → W x → (a : A) × V a × (make a ≡ x)) → Exact W q (map_from make r)
 made_exact {A} {S} V p r make W q exact to from = record {
   found = made_found V p r make W q exact to;
   again = λ x rest w. let f = from x w in
       let P : S → Type 0 = λ z. map_from make r (q z ++ rest) ≡ Ok (z, rest) in
       let here : P (make f.0) = ap (λ (l : List ℕ). map_from make r (l ++ rest)) (to f.0 f.1).1 ∙ rw (exact.again f.0 rest f.1) refl in
       subst P f.2 here;
-  within = λ bytes stop fits e. elim (bind_err (r bytes) (λ (y : A × List ℕ). Ok (make y.0, y.1)) stop e) [
-    | inl h ↦ exact.within bytes stop fits h
-    | inr z ↦ absurd (let wrong : Ok (make z.0.0, z.0.1) ≡ Err stop = z.2 in cc)
+  within = λ bytes fault fits e. elim (bind_err (r bytes) (λ (y : A × List ℕ). Ok (make y.0, y.1)) fault e) [
+    | inl h ↦ exact.within bytes fault fits h
+    | inr z ↦ absurd (let wrong : Ok (make z.0.0, z.0.1) ≡ Err fault = z.2 in cc)
   ];
 }
 
@@ -114,19 +113,19 @@ made_exact {A} {S} V p r make W q exact to from = record {
 passed_ok : {A : Type 0} (test : A → Bool) (size : ℕ) (x y : A × List ℕ) → passed test size x ≡ Ok y → (test x.0 ≡ true) × (x ≡ y)
 passed_ok {A} test size x y e = go (test x.0) refl e
   where
-    go : (t : Bool) → test x.0 ≡ t → cond {A = Result (A × List ℕ) Stop} t (Ok x) (Err (Bad size)) ≡ Ok y → (test x.0 ≡ true) × (x ≡ y)
+    go : (t : Bool) → test x.0 ≡ t → cond {A = Result (A × List ℕ) Fault} t (Ok x) (Err (Bad size)) ≡ Ok y → (test x.0 ≡ true) × (x ≡ y)
     go true t h = (t, ok_is x y h)
     go false t h = absurd cc
 
-passed_err : {A : Type 0} (test : A → Bool) (size : ℕ) (x : A × List ℕ) (stop : Stop) → passed test size x ≡ Err stop → Bad size ≡ stop
-passed_err {A} test size x stop e = go (test x.0) refl e
+passed_err : {A : Type 0} (test : A → Bool) (size : ℕ) (x : A × List ℕ) (fault : Fault) → passed test size x ≡ Err fault → Bad size ≡ fault
+passed_err {A} test size x fault e = go (test x.0) refl e
   where
-    go : (t : Bool) → test x.0 ≡ t → cond {A = Result (A × List ℕ) Stop} t (Ok x) (Err (Bad size)) ≡ Err stop → Bad size ≡ stop
+    go : (t : Bool) → test x.0 ≡ t → cond {A = Result (A × List ℕ) Fault} t (Ok x) (Err (Bad size)) ≡ Err fault → Bad size ≡ fault
     go true t h = absurd cc
-    go false t h = err_is {A = A × List ℕ} (Bad size) stop h
+    go false t h = err_is {A = A × List ℕ} (Bad size) fault h
 
 -- A field that passes a test.
-pub passing_exact : {A : Type 0} (V : A → Type 0) (p : A → List ℕ) (r : List ℕ → Result (A × List ℕ) Stop) (test : A → Bool) → Exact V p r → Exact (λ a. V a × (test a ≡ true)) p (passing test r)
+pub passing_exact : {A : Type 0} (V : A → Type 0) (p : A → List ℕ) (r : List ℕ → Result (A × List ℕ) Fault) (test : A → Bool) → Exact V p r → Exact (λ a. V a × (test a ≡ true)) p (passing test r)
 passing_exact {A} V p r test exact = record {
   found = λ bytes a rest fits e. let u = bind_ok (r bytes) (passed test (length bytes)) (a, rest) e in
       let k = passed_ok test (length bytes) u.0 (a, rest) u.2 in
@@ -134,9 +133,9 @@ passing_exact {A} V p r test exact = record {
       let g : P (a, rest) = subst P k.1 (k.0, u.1) in
       let f = exact.found bytes a rest fits g.1 in ((f.0, g.0), f.1);
   again = λ a rest v. rw (exact.again a rest v.0) (rw v.1 refl);
-  within = λ bytes stop fits e. elim (bind_err (r bytes) (passed test (length bytes)) stop e) [
-    | inl h ↦ exact.within bytes stop fits h
-    | inr w ↦ subst (IsWithin (length bytes)) (passed_err test (length bytes) w.0 stop w.2) (let le : length bytes ≤ length bytes = omega arith in le)
+  within = λ bytes fault fits e. elim (bind_err (r bytes) (passed test (length bytes)) fault e) [
+    | inl h ↦ exact.within bytes fault fits h
+    | inr w ↦ subst (IsWithin (length bytes)) (passed_err test (length bytes) w.0 fault w.2) (let le : length bytes ≤ length bytes = omega arith in le)
   ];
 }
 
@@ -146,12 +145,12 @@ judged_ok : {A : Type 0} (o : Option ℕ) (x y : A × List ℕ) → judged o x �
 judged_ok None x y e = (refl, ok_is x y e)
 judged_ok (Some back) x y e = absurd cc
 
-judged_err : {A : Type 0} (o : Option ℕ) (x : A × List ℕ) (stop : Stop) → judged o x ≡ Err stop → (back : ℕ) × (o ≡ Some back) × (Bad (length x.1 + back) ≡ stop)
-judged_err None x stop e = absurd cc
-judged_err {A} (Some back) x stop e = (back, refl, err_is {A = A × List ℕ} (Bad (length x.1 + back)) stop e)
+judged_err : {A : Type 0} (o : Option ℕ) (x : A × List ℕ) (fault : Fault) → judged o x ≡ Err fault → (back : ℕ) × (o ≡ Some back) × (Bad (length x.1 + back) ≡ fault)
+judged_err None x fault e = absurd cc
+judged_err {A} (Some back) x fault e = (back, refl, err_is {A = A × List ℕ} (Bad (length x.1 + back)) fault e)
 
 -- A field without a flaw, where a flaw stands within the field.
-pub flawless_exact : {A : Type 0} (V : A → Type 0) (p : A → List ℕ) (r : List ℕ → Result (A × List ℕ) Stop) (flaw : A → Option ℕ) → ((a : A) (back : ℕ) → flaw a ≡ Some back → back ≤ length (p a)) → Exact V p r → Exact (λ a. V a × (flaw a ≡ None)) p (flawless flaw r)
+pub flawless_exact : {A : Type 0} (V : A → Type 0) (p : A → List ℕ) (r : List ℕ → Result (A × List ℕ) Fault) (flaw : A → Option ℕ) → ((a : A) (back : ℕ) → flaw a ≡ Some back → back ≤ length (p a)) → Exact V p r → Exact (λ a. V a × (flaw a ≡ None)) p (flawless flaw r)
 flawless_exact {A} V p r flaw inside exact = record {
   found = λ bytes a rest fits e. let u = bind_ok (r bytes) (λ (x : A × List ℕ). judged (flaw x.0) x) (a, rest) e in
       let k = judged_ok (flaw u.0.0) u.0 (a, rest) u.2 in
@@ -159,9 +158,9 @@ flawless_exact {A} V p r flaw inside exact = record {
       let g : P (a, rest) = subst P k.1 (k.0, u.1) in
       let f = exact.found bytes a rest fits g.1 in ((f.0, g.0), f.1);
   again = λ a rest v. rw (exact.again a rest v.0) (rw v.1 refl);
-  within = λ bytes stop fits e. elim (bind_err (r bytes) (λ (x : A × List ℕ). judged (flaw x.0) x) stop e) [
-    | inl h ↦ exact.within bytes stop fits h
-    | inr w ↦ let k = judged_err (flaw w.0.0) w.0 stop w.2 in
+  within = λ bytes fault fits e. elim (bind_err (r bytes) (λ (x : A × List ℕ). judged (flaw x.0) x) fault e) [
+    | inl h ↦ exact.within bytes fault fits h
+    | inr w ↦ let k = judged_err (flaw w.0.0) w.0 fault w.2 in
         let f = exact.found bytes w.0.0 w.0.1 fits w.1 in
         let le : length w.0.1 + k.0 ≤ length bytes = omega (arith, inside w.0.0 k.0 k.1, ap length f.1, length-append (p w.0.0) w.0.1) in
         subst (IsWithin (length bytes)) k.2 le
@@ -173,19 +172,19 @@ flawless_exact {A} V p r flaw inside exact = record {
 ended_ok : {A : Type 0} (x : A × List ℕ) (a : A) → ended x ≡ Ok a → (x.0 ≡ a) × (x.1 ≡ [])
 ended_ok {A} x a e = go (eqb (length x.1) 0) refl e
   where
-    go : (t : Bool) → eqb (length x.1) 0 ≡ t → cond {A = Result A Stop} t (Ok x.0) (Err (Long (length x.1))) ≡ Ok a → (x.0 ≡ a) × (x.1 ≡ [])
+    go : (t : Bool) → eqb (length x.1) 0 ≡ t → cond {A = Result A Fault} t (Ok x.0) (Err (Long (length x.1))) ≡ Ok a → (x.0 ≡ a) × (x.1 ≡ [])
     go true t h = (ok_is x.0 a h, nil_from_length x.1 (eqb-true _ _ t))
     go false t h = absurd cc
 
-ended_err : {A : Type 0} (x : A × List ℕ) (stop : Stop) → ended x ≡ Err stop → Long (length x.1) ≡ stop
-ended_err {A} x stop e = go (eqb (length x.1) 0) refl e
+ended_err : {A : Type 0} (x : A × List ℕ) (fault : Fault) → ended x ≡ Err fault → Long (length x.1) ≡ fault
+ended_err {A} x fault e = go (eqb (length x.1) 0) refl e
   where
-    go : (t : Bool) → eqb (length x.1) 0 ≡ t → cond {A = Result A Stop} t (Ok x.0) (Err (Long (length x.1))) ≡ Err stop → Long (length x.1) ≡ stop
+    go : (t : Bool) → eqb (length x.1) 0 ≡ t → cond {A = Result A Fault} t (Ok x.0) (Err (Long (length x.1))) ≡ Err fault → Long (length x.1) ≡ fault
     go true t h = absurd cc
-    go false t h = err_is {A = A} (Long (length x.1)) stop h
+    go false t h = err_is {A = A} (Long (length x.1)) fault h
 
 -- What is read of all bytes is valid, and they are its spelling.
-pub whole_found : {A : Type 0} {V : A → Type 0} {p : A → List ℕ} {r : List ℕ → Result (A × List ℕ) Stop} → Exact V p r → (bytes : List ℕ) (a : A) → IsBytes bytes → whole_from r bytes ≡ Ok a → V a × (bytes ≡ p a)
+pub whole_found : {A : Type 0} {V : A → Type 0} {p : A → List ℕ} {r : List ℕ → Result (A × List ℕ) Fault} → Exact V p r → (bytes : List ℕ) (a : A) → IsBytes bytes → whole_from r bytes ≡ Ok a → V a × (bytes ≡ p a)
 whole_found {A} {V} {p} {r} exact bytes a fits e =
     let u = bind_ok (r bytes) ended a e in
     let k = ended_ok u.0 a u.2 in
@@ -195,20 +194,20 @@ whole_found {A} {V} {p} {r} exact bytes a fits e =
     subst P k.0 (f.0, text)
 
 -- A valid value is read of its spelling.
-pub whole_again : {A : Type 0} {V : A → Type 0} {p : A → List ℕ} {r : List ℕ → Result (A × List ℕ) Stop} → Exact V p r → (a : A) → V a → whole_from r (p a) ≡ Ok a
+pub whole_again : {A : Type 0} {V : A → Type 0} {p : A → List ℕ} {r : List ℕ → Result (A × List ℕ) Fault} → Exact V p r → (a : A) → V a → whole_from r (p a) ≡ Ok a
 whole_again {A} {V} {p} {r} exact a v =
     let read : r (p a) ≡ Ok (a, []) = ap r (sym (append-nil (p a))) ∙ exact.again a [] v in
-    ap (λ (x : Result (A × List ℕ) Stop). x >>= ended) read
+    ap (λ (x : Result (A × List ℕ) Fault). x >>= ended) read
 
 -- Where all bytes are refused, they spell no valid value.
-pub whole_refused : {A : Type 0} {V : A → Type 0} {p : A → List ℕ} {r : List ℕ → Result (A × List ℕ) Stop} → Exact V p r → (bytes : List ℕ) (stop : Stop) → whole_from r bytes ≡ Err stop → (a : A) → V a → bytes ≡ p a → ⊥
-whole_refused {A} {V} {p} {r} exact bytes stop e a v same = let read : whole_from r bytes ≡ Ok a = ap (whole_from r) same ∙ whole_again exact a v in cc
+pub whole_refused : {A : Type 0} {V : A → Type 0} {p : A → List ℕ} {r : List ℕ → Result (A × List ℕ) Fault} → Exact V p r → (bytes : List ℕ) (fault : Fault) → whole_from r bytes ≡ Err fault → (a : A) → V a → bytes ≡ p a → ⊥
+whole_refused {A} {V} {p} {r} exact bytes fault e a v same = let read : whole_from r bytes ≡ Ok a = ap (whole_from r) same ∙ whole_again exact a v in cc
 
 -- A fault stands within the bytes.
-pub whole_within : {A : Type 0} {V : A → Type 0} {p : A → List ℕ} {r : List ℕ → Result (A × List ℕ) Stop} → Exact V p r → (bytes : List ℕ) (stop : Stop) → IsBytes bytes → whole_from r bytes ≡ Err stop → IsWithin (length bytes) stop
-whole_within {A} {V} {p} {r} exact bytes stop fits e = elim (bind_err (r bytes) ended stop e) [
-  | inl h ↦ exact.within bytes stop fits h
+pub whole_within : {A : Type 0} {V : A → Type 0} {p : A → List ℕ} {r : List ℕ → Result (A × List ℕ) Fault} → Exact V p r → (bytes : List ℕ) (fault : Fault) → IsBytes bytes → whole_from r bytes ≡ Err fault → IsWithin (length bytes) fault
+whole_within {A} {V} {p} {r} exact bytes fault fits e = elim (bind_err (r bytes) ended fault e) [
+  | inl h ↦ exact.within bytes fault fits h
   | inr w ↦ let f = exact.found bytes w.0.0 w.0.1 fits w.1 in
       let le : length w.0.1 ≤ length bytes = omega (arith, ap length f.1, length-append (p w.0.0) w.0.1) in
-      subst (IsWithin (length bytes)) (ended_err w.0 stop w.2) le
+      subst (IsWithin (length bytes)) (ended_err w.0 fault w.2) le
 ]

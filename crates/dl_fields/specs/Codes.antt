@@ -2,8 +2,8 @@
 use Rattle.std.specs.Prelude.{ℕ, List, [], ◌∷◌, Option, Some, None, Result, Ok, Err, length, ◌==◌, if◌then◌else◌}
 use Rattle.std.specs.Int.{w8}
 use Rattle.dl_codec.specs.Fields.{field}
-use Rattle.dl_fields.specs.declared.stop.Stop.{Stop}
-use Rattle.dl_fields.specs.declared.stop.Stop.TheVariants.{Bad}
+use Rattle.dl_fields.specs.declared.fault.Fault.{Fault}
+use Rattle.dl_fields.specs.declared.fault.Fault.TheVariants.{Bad}
 use Rattle.dl_fields.specs.Readers.{◌>>=◌}
 use Rattle.dl_fields.specs.Fields.{number_from}
 
@@ -12,12 +12,13 @@ abbrev pub coded : {K : Type 0} → (K → ℕ) → List K → ℕ → Option K
 coded code [] n = None
 coded code (k ∷ ks) n = if code k == n then Some k else coded code ks n
 
-abbrev pub known : {K : Type 0} → Option K → ℕ → List ℕ → Result (K × List ℕ) Stop
+-- the value that was found, or a bad byte where so many bytes are left
+abbrev pub known : {K : Type 0} → Option K → ℕ → List ℕ → Result (K × List ℕ) Fault
 known (Some k) size rest = Ok (k, rest)
 known None size rest = Err (Bad size)
 
 -- the value whose code is the first byte; a byte that is no code of the list is bad
-abbrev pub code_from : {K : Type 0} → (K → ℕ) → List K → List ℕ → Result (K × List ℕ) Stop
+abbrev pub code_from : {K : Type 0} → (K → ℕ) → List K → List ℕ → Result (K × List ℕ) Fault
 code_from code ks bytes = number_from w8 bytes >>= λ x. known (coded code ks x.0) (length bytes) x.1
 
 -- the byte of a code

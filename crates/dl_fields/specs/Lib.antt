@@ -1,7 +1,9 @@
 pub mod Readers
 pub mod Fields
 pub mod Codes
+pub mod Flags
 pub mod Lists
+pub mod Digits
 pub mod Paths
 pub mod Laws
 pub mod Outputs

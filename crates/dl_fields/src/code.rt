@@ -1,9 +1,9 @@
 ghost use Rattle.std.specs.Prelude.{◌≡◌, ℕ};
-ghost use Rattle.dl_fields.specs.Readers.{Gives};
+ghost use Rattle.dl_fields.specs.Readers.{Reads};
 ghost use Rattle.dl_fields.specs.Codes.{code_from};
 
-use crate::number::u8_of;
-use crate::stop::Stop;
+use crate::number::read_u8;
+use crate::fault::Fault;
 
 /// A value of a closed list that stands for one byte, its code: a type of no data, one variant a code.
 pub trait Code: Copy {
@@ -17,14 +17,14 @@ pub trait Code: Copy {
 
 /// The first of the values whose code is the byte at the front, and the bytes behind it. A byte that is none of their
 /// codes is bad.
-pub fn code_of<'a, K: Code>(codes: &[K], bytes: &'a [u8]) -> Result<(K, &'a [u8]), Stop>
-    ensures { Gives (λ x. (x.0, x.1.now)) result (code_from K.code codes.now bytes.now) }
+pub fn read_code<'a, K: Code>(codes: &[K], bytes: &'a [u8]) -> Result<(K, &'a [u8]), Fault>
+    ensures { Reads (λ x. (x.0, x.1.now)) result (code_from K.code codes.now bytes.now) }
 {
-    let (byte, rest) = u8_of(bytes)?;
+    let (byte, rest) = read_u8(bytes)?;
     for value in codes {
         if value.code() == byte {
             return Ok((*value, rest));
         }
     }
-    Err(Stop::Bad(bytes.len()))
+    Err(Fault::Bad(bytes.len()))
 }

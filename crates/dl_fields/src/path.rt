@@ -1,10 +1,20 @@
 ghost use Rattle.std.specs.Prelude.{◌≡◌, ◌≤◌, ◌+◌, length, IfSome, IfOk};
-ghost use Rattle.dl_fields.specs.Readers.{Gives};
+ghost use Rattle.dl_fields.specs.Readers.{Reads};
 ghost use Rattle.dl_fields.specs.Paths.{is_part_byte, flaw_behind, path_flaw, part_flaw, some_from, path_from, name_from, last_length, is_stem, stem_from};
 
-use crate::run::run_of_u16;
-use crate::stop::Stop;
+use crate::run::read_run_u16;
+use crate::fault::Fault;
 
+/// The most bytes of a part of a path.
+const MAX_PART: usize = 80;
+
+/// The most bytes of the last part of a path to which ten digits may be added.
+const MAX_STEM_PART: usize = 70;
+
+/// The most bytes of a path to which ten digits may be added: with them it fits its length of 16 bits.
+const MAX_STEM: usize = 65_525;
+
+/// Whether a byte may stand in a part.
 fn is_part_byte(byte: u8) -> bool
     ensures { result ≡ is_part_byte byte }
 {
@@ -25,7 +35,7 @@ fn flaw_behind_slash(parts: &[u8]) -> Option<usize>
             }
             size = 0;
         } else {
-            if !is_part_byte(*byte) || size >= 80 {
+            if !is_part_byte(*byte) || size >= MAX_PART {
                 return Some(rest.len());
             }
             size += 1;
@@ -63,7 +73,7 @@ pub fn part_flaw(part: &[u8]) -> Option<usize>
     let mut size: usize = 0;
     let mut rest = part;
     while let [byte, more @ ..] = rest {
-        if !is_part_byte(*byte) || size >= 80 {
+        if !is_part_byte(*byte) || size >= MAX_PART {
             return Some(rest.len());
         }
         size += 1;
@@ -73,13 +83,13 @@ pub fn part_flaw(part: &[u8]) -> Option<usize>
 }
 
 /// Bytes behind their length of 16 bits, at least one, and the bytes behind them.
-fn some_of(bytes: &[u8]) -> Result<(&[u8], &[u8]), Stop>
-    ensures exact { Gives (λ x. (x.0.now, x.1.now)) result (some_from bytes.now) }
+fn read_some(bytes: &[u8]) -> Result<(&[u8], &[u8]), Fault>
+    ensures exact { Reads (λ x. (x.0.now, x.1.now)) result (some_from bytes.now) }
     ensures room { IfOk result (λ x. length x.0.now + length x.1.now ≤ length bytes.now) }
 {
-    let (run, rest) = run_of_u16(bytes)?;
+    let (run, rest) = read_run_u16(bytes)?;
     if run.is_empty() {
-        Err(Stop::Bad(bytes.len()))
+        Err(Fault::Bad(bytes.len()))
     } else {
         Ok((run, rest))
     }
@@ -87,30 +97,30 @@ fn some_of(bytes: &[u8]) -> Result<(&[u8], &[u8]), Stop>
 
 /// The bytes of a path behind their length, and the bytes behind it. An empty path is bad at the first byte of its
 /// length, another one at the first byte that breaks the form.
-pub fn path_of(bytes: &[u8]) -> Result<(&[u8], &[u8]), Stop>
-    ensures { Gives (λ x. (x.0.now, x.1.now)) result (path_from bytes.now) }
+pub fn read_path(bytes: &[u8]) -> Result<(&[u8], &[u8]), Fault>
+    ensures { Reads (λ x. (x.0.now, x.1.now)) result (path_from bytes.now) }
 {
-    let (path, rest) = some_of(bytes)?;
+    let (path, rest) = read_some(bytes)?;
     match path_flaw(path) {
         None => Ok((path, rest)),
-        Some(back) => Err(Stop::Bad(rest.len() + back)),
+        Some(back) => Err(Fault::Bad(rest.len() + back)),
     }
 }
 
 /// The bytes of a listing's name behind their length, and the bytes behind it. An empty name is bad at the first byte of
 /// its length, another one at the first byte that breaks the form of a part.
-pub fn name_of(bytes: &[u8]) -> Result<(&[u8], &[u8]), Stop>
-    ensures { Gives (λ x. (x.0.now, x.1.now)) result (name_from bytes.now) }
+pub fn read_name(bytes: &[u8]) -> Result<(&[u8], &[u8]), Fault>
+    ensures { Reads (λ x. (x.0.now, x.1.now)) result (name_from bytes.now) }
 {
-    let (name, rest) = some_of(bytes)?;
+    let (name, rest) = read_some(bytes)?;
     match part_flaw(name) {
         None => Ok((name, rest)),
-        Some(back) => Err(Stop::Bad(rest.len() + back)),
+        Some(back) => Err(Fault::Bad(rest.len() + back)),
     }
 }
 
-/// How many bytes the last part has.
-fn last_length(path: &[u8]) -> usize
+/// How many bytes the last part has: those behind the last slash.
+pub fn last_length(path: &[u8]) -> usize
     ensures { result ≡ last_length path.now }
 {
     path.iter().rev().take_while(|byte| **byte != b'/').count()
@@ -120,18 +130,18 @@ fn last_length(path: &[u8]) -> usize
 pub fn is_stem(path: &[u8]) -> bool
     ensures { result ≡ is_stem path.now }
 {
-    last_length(path) <= 70 && path.len() <= 65_525
+    last_length(path) <= MAX_STEM_PART && path.len() <= MAX_STEM
 }
 
 /// The bytes of a path to which ten digits may be added, behind their length, and the bytes behind it. A path that has
 /// no room for them is bad at the first byte of its length.
-pub fn stem_of(bytes: &[u8]) -> Result<(&[u8], &[u8]), Stop>
-    ensures { Gives (λ x. (x.0.now, x.1.now)) result (stem_from bytes.now) }
+pub fn read_stem(bytes: &[u8]) -> Result<(&[u8], &[u8]), Fault>
+    ensures { Reads (λ x. (x.0.now, x.1.now)) result (stem_from bytes.now) }
 {
-    let (path, rest) = path_of(bytes)?;
+    let (path, rest) = read_path(bytes)?;
     if is_stem(path) {
         Ok((path, rest))
     } else {
-        Err(Stop::Bad(bytes.len()))
+        Err(Fault::Bad(bytes.len()))
     }
 }

@@ -1,10 +1,10 @@
 ghost use Rattle.std.specs.Prelude.{if◌then◌else◌};
 
-use crate::code::{Code, code_of};
-use crate::number::{u8_of, u16_of, u32_of, u64_of};
-use crate::path::{is_stem, name_of, part_flaw, path_flaw, path_of, stem_of};
-use crate::run::{run_of, run_of_u16, run_of_u32};
-use crate::stop::Stop;
+use crate::code::{Code, read_code};
+use crate::number::{read_u8, read_u16, read_u32, read_u64};
+use crate::path::{is_stem, read_name, part_flaw, path_flaw, read_path, read_stem};
+use crate::run::{read_run, read_run_u16, read_run_u32};
+use crate::fault::Fault;
 use crate::write::{put_run_u16, put_run_u32};
 use dl_types::memory::NoMemory;
 use std::alloc::Global;
@@ -38,15 +38,15 @@ fn path_field(alloc: Global, letters: u8) -> Result<Vec<u8>, NoMemory> {
 #[test]
 fn reads_numbers_and_runs(rt: HostRuntime) -> Result<(), Fail> {
     let bytes = [0u8, 0, 0, 2, 5, 6, 7, 8].as_slice();
-    assert_eq!(rt; u8_of(bytes), Ok((0, &bytes[1..])));
-    assert_eq!(rt; u16_of(&bytes[2..]), Ok((2, &bytes[4..])));
-    assert_eq!(rt; u32_of(bytes), Ok((2, &bytes[4..])));
-    assert_eq!(rt; u64_of(bytes), Ok((8_674_215_688, &bytes[8..])));
-    assert_eq!(rt; u64_of(&bytes[1..]), Err(Stop::Short(7)));
-    assert_eq!(rt; run_of(3, bytes), Ok((&bytes[..3], &bytes[3..])));
-    assert_eq!(rt; run_of_u16(&bytes[2..]), Ok((&bytes[4..6], &bytes[6..])));
-    assert_eq!(rt; run_of_u32(bytes), Ok((&bytes[4..6], &bytes[6..])));
-    assert_eq!(rt; run_of_u32(&bytes[..5]), Err(Stop::Short(1)));
+    assert_eq!(rt; read_u8(bytes), Ok((0, &bytes[1..])));
+    assert_eq!(rt; read_u16(&bytes[2..]), Ok((2, &bytes[4..])));
+    assert_eq!(rt; read_u32(bytes), Ok((2, &bytes[4..])));
+    assert_eq!(rt; read_u64(bytes), Ok((8_674_215_688, &bytes[8..])));
+    assert_eq!(rt; read_u64(&bytes[1..]), Err(Fault::Short(7)));
+    assert_eq!(rt; read_run(3, bytes), Ok((&bytes[..3], &bytes[3..])));
+    assert_eq!(rt; read_run_u16(&bytes[2..]), Ok((&bytes[4..6], &bytes[6..])));
+    assert_eq!(rt; read_run_u32(bytes), Ok((&bytes[4..6], &bytes[6..])));
+    assert_eq!(rt; read_run_u32(&bytes[..5]), Err(Fault::Short(1)));
     Ok(())
 }
 
@@ -60,20 +60,20 @@ fn finds_the_flaw_of_a_path(rt: HostRuntime) -> Result<(), Fail> {
     assert_eq!(rt; path_flaw(b"/a.b"), Some(2));
     assert_eq!(rt; part_flaw(b"m-0"), None);
     assert_eq!(rt; part_flaw(b"m/0"), Some(2));
-    assert_eq!(rt; path_of(b"\x00\x00"), Err(Stop::Bad(2)));
-    assert_eq!(rt; path_of(b"\x00\x03/a/b"), Err(Stop::Bad(2)));
-    assert_eq!(rt; name_of(b"\x00\x01ab").is_ok(), true);
-    assert_eq!(rt; name_of(b"\x00\x01/"), Err(Stop::Bad(1)));
+    assert_eq!(rt; read_path(b"\x00\x00"), Err(Fault::Bad(2)));
+    assert_eq!(rt; read_path(b"\x00\x03/a/b"), Err(Fault::Bad(2)));
+    assert_eq!(rt; read_name(b"\x00\x01ab").is_ok(), true);
+    assert_eq!(rt; read_name(b"\x00\x01/"), Err(Fault::Bad(1)));
     Ok(())
 }
 
 #[test]
 fn counts_the_bytes_of_a_part(rt: HostRuntime) -> Result<(), Fail> {
     let alloc = rt.alloc();
-    assert_eq!(rt; path_of(&path_field(alloc, 80)?).is_ok(), true);
-    assert_eq!(rt; path_of(&path_field(alloc, 81)?), Err(Stop::Bad(1)));
-    assert_eq!(rt; stem_of(&path_field(alloc, 70)?).is_ok(), true);
-    assert_eq!(rt; stem_of(&path_field(alloc, 71)?), Err(Stop::Bad(74)));
+    assert_eq!(rt; read_path(&path_field(alloc, 80)?).is_ok(), true);
+    assert_eq!(rt; read_path(&path_field(alloc, 81)?), Err(Fault::Bad(1)));
+    assert_eq!(rt; read_stem(&path_field(alloc, 70)?).is_ok(), true);
+    assert_eq!(rt; read_stem(&path_field(alloc, 71)?), Err(Fault::Bad(74)));
     assert_eq!(rt; is_stem(b"/a/b"), true);
     Ok(())
 }
@@ -83,8 +83,8 @@ fn reads_a_code_and_writes_runs(rt: HostRuntime) -> Result<(), Fail> {
     let alloc = rt.alloc();
     let colours = [RED, BLUE];
     let bytes = [7u8, 2].as_slice();
-    assert_eq!(rt; code_of(&colours, bytes), Ok((BLUE, &bytes[1..])));
-    assert_eq!(rt; code_of(&colours, &bytes[1..]), Err(Stop::Bad(1)));
+    assert_eq!(rt; read_code(&colours, bytes), Ok((BLUE, &bytes[1..])));
+    assert_eq!(rt; read_code(&colours, &bytes[1..]), Err(Fault::Bad(1)));
     let mut out = Vec::new(alloc);
     put_run_u16(alloc, &mut out, b"hi")?;
     put_run_u32(alloc, &mut out, b"!")?;

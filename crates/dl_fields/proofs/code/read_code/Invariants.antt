@@ -1,6 +1,6 @@
 use Rattle.std.proofs.Common.{◌≡◌, drop}
 use Rattle.dl_fields.specs.Codes.{coded}
-use Rattle.dl_fields.proofs.code.code_of.Given as goal
+use Rattle.dl_fields.proofs.code.read_code.Given as goal
 
 abbrev pub invariant-loop-value : goal.invariant-loop-value
 invariant-loop-value g l = coded g.K.Code.code (drop l.value-index l.codes) l.byte ≡ coded g.K.Code.code l.codes l.byte
