@@ -8,3 +8,5 @@ pub mod Words
 pub mod Columns
 pub mod Outputs
 pub mod Laws
+pub mod Fields
+pub mod Refusals

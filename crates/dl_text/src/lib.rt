@@ -1,10 +1,12 @@
 //! Readers and printers of the fields of lines, and the laws by which a line is read exactly as it is spelt.
 #![tactic(auto)]
 
+pub mod field;
 pub mod hex;
 pub mod laws;
 pub mod line;
 pub mod number;
+pub mod refusal_word;
 pub mod stop;
 #[cfg(test)]
 mod tests;
