@@ -1,44 +1,60 @@
 -- The line that a program notes when it ends badly.
 use Rattle.std.specs.Prelude.{◌≡◌, ℕ, List, [], ◌++◌, Option, codes, decimal}
 use Rattle.std.specs.Io.KnownBytes.{Appends}
-use Rattle.dl_types.specs.declared.status.LimitName.{LimitName}
+use Rattle.dl_types.specs.declared.limit.LimitName.{LimitName}
+use Rattle.dl_types.specs.declared.refusal.Refusal.{Refusal}
 use Rattle.dl_types.specs.declared.status.Status.{Status}
-use Rattle.dl_types.specs.declared.status.Status.TheVariants.{Ok, Usage, BadSchedule, ReadFault, WriteFault, Limit, NoMemory}
+use Rattle.dl_types.specs.declared.status.Status.TheVariants as status
 use Rattle.dl_types.specs.Statuses.{limit_text}
+use Rattle.dl_text.specs.Ends.{space, line_feed}
+use Rattle.dl_text.specs.Numbers.{number}
+use Rattle.dl_text.specs.Refusals.{refusal_field}
 use Rattle.dl_io.specs.Causes.{Rose}
 use Rattle.dl_io.specs.Sinks.{KeepsAmount, FinishesAll, GivesFront}
 
--- what a note says of a place in a schedule
-abbrev pub place_text : ℕ → ℕ → List ℕ
-place_text line column = codes "bad schedule: line " ++ decimal line ++ (codes " column " ++ decimal column)
+-- a text, a number, and the byte that ends it
+abbrev pub word_number : List ℕ → ℕ → ℕ → List ℕ
+word_number text end n = text ++ number end n
 
--- what a note says of a limit that was passed
-abbrev pub past_limit_text : LimitName → ℕ → List ℕ
-past_limit_text name number = codes "limit: " ++ limit_text name ++ (codes " " ++ decimal number)
+-- two texts with a number behind each, to the end of the line
+abbrev pub two_numbers : List ℕ → ℕ → List ℕ → ℕ → List ℕ
+two_numbers first one second other = word_number first space one ++ word_number second line_feed other
 
--- what a note says of a status
+-- a limit that was passed
+abbrev pub limit_past : LimitName → ℕ → List ℕ
+limit_past name n = codes "limit: " ++ limit_text name ++ word_number (codes " ") line_feed n
+
+-- an order that was refused
+abbrev pub refused : Refusal → List ℕ
+refused r = codes "refused: " ++ refusal_field r
+
+-- what a note says of a status, to the end of its line
 abbrev pub note_text : Status → List ℕ
-note_text Ok = []
-note_text (Usage place) = codes "usage: word " ++ decimal place
-note_text (BadSchedule line column) = place_text line column
-note_text ReadFault = codes "read fault"
-note_text WriteFault = codes "write fault"
-note_text (Limit name number) = past_limit_text name number
-note_text NoMemory = codes "no memory"
+note_text status.Ok = []
+note_text (status.Usage place) = word_number (codes "usage: word ") line_feed place
+note_text (status.BadSchedule line column) = two_numbers (codes "bad schedule: line ") line (codes "column ") column
+note_text status.ReadFault = codes "read fault\n"
+note_text status.WriteFault = codes "write fault\n"
+note_text (status.DeviceFault file) = word_number (codes "device fault: ") line_feed file
+note_text status.NotInitialised = codes "not initialised\n"
+note_text (status.Damaged file at) = two_numbers (codes "damaged: ") file (codes "at ") at
+note_text status.NoStream = codes "no stream\n"
+note_text status.StreamExists = codes "stream exists\n"
+note_text (status.Refused refusal) = refused refusal
+note_text (status.Unavailable need have) = two_numbers (codes "unavailable: need ") need (codes "have ") have
+note_text (status.Limit name n) = limit_past name n
+note_text status.NoMemory = codes "no memory\n"
+note_text status.AlreadyInitialised = codes "already initialised\n"
+note_text (status.Lacking ledger entry) = two_numbers (codes "lacking: ledger ") ledger (codes "entry ") entry
 
--- a text between the program's name and a line feed
-abbrev pub note_line : List ℕ → List ℕ
-note_line text = codes "dlog: " ++ text ++ codes "\n"
+-- the program's name, and what is said of a status
+abbrev pub note_line : Status → List ℕ
+note_line s = codes "dlog: " ++ note_text s
 
 -- the note of a status; a good end has none
 abbrev pub note : Status → List ℕ
-note Ok = []
-note (Usage place) = note_line (note_text (Usage place))
-note (BadSchedule line column) = note_line (note_text (BadSchedule line column))
-note ReadFault = note_line (note_text ReadFault)
-note WriteFault = note_line (note_text WriteFault)
-note (Limit name number) = note_line (note_text (Limit name number))
-note NoMemory = note_line (note_text NoMemory)
+note status.Ok = []
+note s = note_line s
 
 -- the whole text was given; or a front of it, and the count of faults rose
 pub data Noted (held_old held_new : Option (List ℕ)) (faults_old faults_new : ℕ) (text : List ℕ) : Type 0 where
@@ -50,4 +66,4 @@ pub data Noted (held_old held_new : Option (List ℕ)) (faults_old faults_new : 
 pub data NoteFinished (held : Option (List ℕ)) (amount_old amount_new : Option ℕ) (faults_old faults_new : ℕ) (s : Status) : Type 0 where
   finished : FinishesAll held amount_old amount_new → NoteFinished held amount_old amount_new faults_old faults_new s
   failed : Rose faults_old faults_new → KeepsAmount amount_old amount_new → NoteFinished held amount_old amount_new faults_old faults_new s
-  silent : s ≡ Ok → KeepsAmount amount_old amount_new → NoteFinished held amount_old amount_new faults_old faults_new s
+  silent : s ≡ status.Ok → KeepsAmount amount_old amount_new → NoteFinished held amount_old amount_new faults_old faults_new s

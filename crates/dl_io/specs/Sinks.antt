@@ -1,6 +1,7 @@
 -- What the calls of a sink do to what is told of it.
-use Rattle.std.specs.Prelude.{◌≡◌, ℕ, ◌<◌, List, ◌++◌, length, Option, None, Some, Result, IfOk, MatchResult, ⊤}
+use Rattle.std.specs.Prelude.{◌≡◌, ℕ, ◌<◌, List, ◌++◌, length, Option, None, Some, Result, IfOk, OnOk, MatchResult, ⊤}
 use Rattle.std.specs.Io.KnownBytes.{Appends}
+use Rattle.dl_io.specs.Causes.{HasCause}
 
 -- a told amount stays
 abbrev pub KeepsAmount : Option ℕ → Option ℕ → Type 0
@@ -27,3 +28,10 @@ pub record GivesFront (old new : Option (List ℕ)) (text : List ℕ) : Type 0 w
   pub rest : List ℕ
   pub parts : text ≡ front ++ rest
   pub given : Appends old new front
+
+-- A text was given to a sink: all of it, or a front of it where a call failed. How much is finished stays.
+pub record Writes {E : Type 0} (held_old held_new : Option (List ℕ)) (finished_old finished_new : Option ℕ) (faults_old faults_new : ℕ) (text : List ℕ) (result : Result (Unit {0}) E) : Type 0 where
+  pub ok : OnOk result (Appends held_old held_new text)
+  pub some : GivesFront held_old held_new text
+  pub kept : KeepsAmount finished_old finished_new
+  pub cause : HasCause faults_old faults_new result

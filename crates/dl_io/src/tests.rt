@@ -3,7 +3,8 @@ use crate::memory::{MemSink, MemSource};
 use crate::notes::write_note;
 use crate::standard::{NoteSink, StdSink, StdSource};
 use crate::traits::{Sink, Source, WriteFailed};
-use dl_types::status::{LimitName, Status};
+use dl_types::limit::LimitName;
+use dl_types::status::Status;
 use std::test::Fail;
 
 #[test]
@@ -79,7 +80,7 @@ fn notes_the_texts_of_statuses(rt: HostRuntime) -> Result<(), Fail> {
     ];
     for (status, text) in rows {
         let mut notes = MemSink::new(rt.alloc(), Vec::new(rt.alloc()))?;
-        write_note(&mut notes, status);
+        write_note(&mut notes, &status);
         assert_eq!(rt; notes.bytes(), text);
         assert_eq!(rt; notes.finished(), text.len());
         assert_eq!(rt; notes.faults(), 0);
@@ -90,7 +91,7 @@ fn notes_the_texts_of_statuses(rt: HostRuntime) -> Result<(), Fail> {
 #[test]
 fn a_note_stops_at_the_first_fault(rt: HostRuntime) -> Result<(), Fail> {
     let mut notes = MemSink::new(rt.alloc(), vec![in rt.alloc(); 2]?)?;
-    write_note(&mut notes, Status::Usage { place: 2 });
+    write_note(&mut notes, &Status::Usage { place: 2 });
     assert_eq!(rt; notes.bytes(), b"dlog: ".as_slice());
     assert_eq!(rt; notes.finished(), 0);
     assert_eq!(rt; notes.faults(), 1);

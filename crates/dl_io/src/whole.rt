@@ -1,17 +1,12 @@
-ghost use Rattle.std.specs.Prelude.{OnOk};
-ghost use Rattle.std.specs.Io.KnownBytes.{Appends};
-ghost use Rattle.dl_io.specs.Causes.{HasCause};
-ghost use Rattle.dl_io.specs.Sinks.{KeepsAmount, GivesFront};
+ghost use Rattle.dl_io.specs.Sinks.{Writes};
 
 use crate::traits::{Sink, WriteFailed};
 
 /// Gives all of a text to a sink, in order, in as many calls as it takes; an empty text needs none. It stops at the
 /// first fault: a front of the text was given then. How much is finished stays.
 pub fn write_all<K: Sink>(sink: &mut K, text: &[u8]) -> Result<(), WriteFailed>
-    ensures ok { OnOk result (Appends (K.held sink.old) (K.held sink.new) text.now) }
-    ensures some { GivesFront (K.held sink.old) (K.held sink.new) text.now }
-    ensures kept { KeepsAmount (K.finished sink.old) (K.finished sink.new) }
-    ensures cause { HasCause (K.write_faults sink.old) (K.write_faults sink.new) result }
+    ensures { Writes (K.held sink.old) (K.held sink.new) (K.finished sink.old) (K.finished sink.new)
+        (K.write_faults sink.old) (K.write_faults sink.new) text.now result }
 {
     let mut rest = text;
     while !rest.is_empty() {

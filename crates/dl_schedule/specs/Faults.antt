@@ -2,8 +2,8 @@
 use Rattle.std.specs.Prelude.{◌≡◌, ℕ, List, Result, Ok, Err}
 use Rattle.dl_text.specs.Columns.{StopsAt, column_of}
 use Rattle.dl_schedule.specs.declared.step.Step.{Step}
-use Rattle.dl_schedule.specs.declared.fault.LineFault.{LineFault}
-use Rattle.dl_schedule.specs.declared.fault.LineFault.TheVariants.{NoMemory, BadLine}
+use Rattle.dl_types.specs.declared.line_fault.LineFault.{LineFault}
+use Rattle.dl_types.specs.declared.line_fault.LineFault.TheVariants.{NoMemory, BadLine}
 use Rattle.dl_schedule.specs.Lines.{print_step, IsEarly}
 use Rattle.dl_schedule.specs.Reading.{early_at}
 

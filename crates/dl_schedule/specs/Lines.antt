@@ -1,6 +1,7 @@
 -- The lines of a schedule: the one spelling of each step, and which steps the lines of an early schedule may say.
 use Rattle.std.specs.Prelude.{◌≡◌, ℕ, Option, Some, None, List, [], ◌∷◌, ◌++◌, codes, ◌==◌, if◌then◌else◌}
-pub use Rattle.dl_text.specs.Ends.{space, line_feed}
+pub use Rattle.dl_types.specs.declared.txid.TheConstants.{MAX_TXID}
+use Rattle.dl_text.specs.Ends.{space, line_feed}
 use Rattle.dl_text.specs.Numbers.{number, IsWithin}
 use Rattle.dl_text.specs.Hex.{hex, AllBytes}
 use Rattle.dl_schedule.specs.declared.step.Step.{Step}
@@ -57,17 +58,13 @@ opening_at n =
     else if n == 6 then Some opening.Settle
     else None
 
--- the greatest transaction id, which fits a signed field of 64 bits
-abbrev pub greatest_txid : ℕ
-greatest_txid = 9223372036854775807
-
 -- a step of a free line: an append or a flush of client 0, or a settle
 abbrev pub IsFree : Step → Type 0
 IsFree (Setup b e w a) = ⊥
 IsFree (Join c) = ⊥
 IsFree (Create c s) = ⊥
 IsFree (Open c s) = ⊥
-IsFree (Append c t p) = IsWithin 0 0 c × (IsWithin 0 greatest_txid t × AllBytes p)
+IsFree (Append c t p) = IsWithin 0 0 c × (IsWithin 0 MAX_TXID t × AllBytes p)
 IsFree (Flush c) = IsWithin 0 0 c
 IsFree Settle = Unit {0}
 

@@ -4,13 +4,14 @@ use Rattle.dl_text.specs.Readers.{then_at, map_at, whole_at}
 use Rattle.dl_text.specs.Numbers.{number_at}
 use Rattle.dl_text.specs.Hex.{hex_at}
 use Rattle.dl_text.specs.Words.{words_from}
+use Rattle.dl_types.specs.declared.txid.TheConstants.{MAX_TXID}
 use Rattle.dl_schedule.specs.declared.step.Step.{Step}
 use Rattle.dl_schedule.specs.declared.step.Step.TheVariants.{Append, Flush, Settle}
 use Rattle.dl_schedule.specs.declared.verb.Verb.{Verb}
 use Rattle.dl_schedule.specs.declared.verb.Verb.TheVariants as verb
 use Rattle.dl_schedule.specs.declared.verb.Opening.{Opening}
 use Rattle.dl_schedule.specs.Verbs.{verb_text, verbs}
-use Rattle.dl_schedule.specs.Lines.{space, line_feed, greatest_txid, opening_step, opening_text, opening_at}
+use Rattle.dl_schedule.specs.Lines.{space, line_feed, opening_step, opening_text, opening_at}
 
 -- the client that most lines name
 abbrev pub client_at : ℕ → List ℕ → Result (ℕ × List ℕ) ℕ
@@ -20,7 +21,7 @@ client_at = number_at 0 0
 abbrev pub append_at : List ℕ → Result (Step × List ℕ) ℕ
 append_at =
     map_at (λ (client, (txid, payload)). Append client txid payload)
-    (then_at (client_at space) (λ client. then_at (number_at 0 greatest_txid space) (λ txid. hex_at line_feed)))
+    (then_at (client_at space) (λ client. then_at (number_at 0 MAX_TXID space) (λ txid. hex_at line_feed)))
 
 -- a flush behind its first word
 abbrev pub flush_at : List ℕ → Result (Step × List ℕ) ℕ

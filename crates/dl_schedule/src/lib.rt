@@ -3,7 +3,6 @@
 
 pub mod bookie_count;
 pub mod early;
-pub mod fault;
 pub mod laws;
 pub mod step;
 #[cfg(test)]

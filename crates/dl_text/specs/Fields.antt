@@ -1,11 +1,8 @@
 -- Fields of lines that are more than one number or that are bytes as they are: names, paths, places.
 use Rattle.std.specs.Prelude.{ℕ, List, [], ◌∷◌, ◌++◌}
 use Rattle.dl_types.specs.declared.dlsn.Dlsn.{Dlsn}
+use Rattle.dl_text.specs.Ends.{colon}
 use Rattle.dl_text.specs.Numbers.{number}
-
--- the byte between the numbers of a place
-abbrev pub colon : ℕ
-colon = 58
 
 -- bytes as they are, and the byte that ends them
 abbrev pub bytes_field : ℕ → List ℕ → List ℕ

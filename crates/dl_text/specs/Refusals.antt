@@ -2,18 +2,11 @@
 use Rattle.std.specs.Prelude.{ℕ, List, [], ◌∷◌, ◌++◌, codes}
 use Rattle.dl_types.specs.declared.refusal.Refusal.{Refusal}
 use Rattle.dl_types.specs.declared.refusal.Refusal.TheVariants as refusal
+use Rattle.dl_text.specs.Ends.{space, line_feed}
 use Rattle.dl_text.specs.Numbers.{number}
 use Rattle.dl_text.specs.Fields.{bytes_field, place_field}
 use Rattle.dl_text.specs.declared.refusal_word.RefusalWord.{RefusalWord}
 use Rattle.dl_text.specs.declared.refusal_word.RefusalWord.TheVariants as word
-
--- the byte between the words of a line
-abbrev pub space : ℕ
-space = 32
-
--- the byte that ends a line
-abbrev pub line_feed : ℕ
-line_feed = 10
 
 -- the word of a refusal, with the byte that ends it
 abbrev pub refusal_text : RefusalWord → List ℕ

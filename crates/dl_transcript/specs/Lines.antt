@@ -1,32 +1,18 @@
 -- The one spelling of each event: the number of its line of the schedule, a space, the event, LF.
-use Rattle.std.specs.Prelude.{ℕ, List, [], ◌∷◌, ◌++◌, codes, map}
+use Rattle.std.specs.Prelude.{ℕ, List, [], ◌++◌, map}
 use Rattle.std.specs.List.{flat_map}
 pub use Rattle.dl_text.specs.Ends.{space, colon, line_feed}
 use Rattle.dl_text.specs.Numbers.{number}
 use Rattle.dl_text.specs.Hex.{hex}
-use Rattle.dl_types.specs.declared.dlsn.Dlsn.{Dlsn}
-use Rattle.dl_types.specs.declared.refusal.Refusal.{Refusal}
-use Rattle.dl_types.specs.declared.refusal.Refusal.TheVariants.{TxidBack, TooLong, WindowFull}
+use Rattle.dl_text.specs.Fields.{bytes_field, place_field}
+use Rattle.dl_text.specs.Refusals.{refusal_field}
 use Rattle.dl_transcript.specs.declared.event.Event.{Event}
 use Rattle.dl_transcript.specs.declared.event.Event.TheVariants.{Joined, Created, Writer, Took, Sent, Grow, Ack, Refused, Nothing}
 use Rattle.dl_transcript.specs.declared.verb.Verb.{Verb}
 use Rattle.dl_transcript.specs.declared.verb.Verb.TheVariants as verb
 use Rattle.dl_transcript.specs.Verbs.{verb_text}
 
--- a name, and the byte that ends it
-abbrev pub name : ℕ → List ℕ → List ℕ
-name end bytes = bytes ++ end ∷ []
-
--- a place, segment:entry:slot, and the byte that ends it
-abbrev pub dlsn : ℕ → Dlsn → List ℕ
-dlsn end d = number colon d.segment ++ (number colon d.entry ++ number end d.slot)
-
--- a refusal, to the end of its line
-abbrev pub print_refusal : Refusal → List ℕ
-print_refusal (TxidBack last given) = codes "txidback " ++ (number space last ++ number line_feed given)
-print_refusal (TooLong length) = codes "toolong " ++ number line_feed length
-print_refusal WindowFull = codes "windowfull" ++ line_feed ∷ []
-
+-- the first word of an event
 abbrev pub verb_of : Event → Verb
 verb_of (Joined c k) = verb.Joined
 verb_of (Created c stream) = verb.Created
@@ -45,13 +31,13 @@ print_origin c n payload = number space c ++ (number space n ++ hex line_feed pa
 -- an event behind its first word
 abbrev pub print_fields : Event → List ℕ
 print_fields (Joined c k) = number space c ++ number line_feed k
-print_fields (Created c stream) = number space c ++ name line_feed stream
-print_fields (Writer c stream k) = number space c ++ (name space stream ++ number line_feed k)
-print_fields (Took c n stream txid payload) = number space c ++ (number space n ++ (name space stream ++ (number space txid ++ hex line_feed payload)))
+print_fields (Created c stream) = number space c ++ bytes_field line_feed stream
+print_fields (Writer c stream k) = number space c ++ (bytes_field space stream ++ number line_feed k)
+print_fields (Took c n stream txid payload) = number space c ++ (number space n ++ (bytes_field space stream ++ (number space txid ++ hex line_feed payload)))
 print_fields (Sent c k e) = number space c ++ (number colon k ++ number line_feed e)
-print_fields (Grow stream d txid c n payload) = name space stream ++ (dlsn space d ++ (number space txid ++ print_origin c n payload))
-print_fields (Ack c n d) = number space c ++ (number space n ++ dlsn line_feed d)
-print_fields (Refused c r) = number space c ++ print_refusal r
+print_fields (Grow stream d txid c n payload) = bytes_field space stream ++ (place_field space d ++ (number space txid ++ print_origin c n payload))
+print_fields (Ack c n d) = number space c ++ (number space n ++ place_field line_feed d)
+print_fields (Refused c r) = number space c ++ refusal_field r
 print_fields Nothing = []
 
 -- an event at its line of the schedule

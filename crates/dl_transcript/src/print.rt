@@ -1,54 +1,16 @@
 ghost use Rattle.std.specs.Prelude.{◌≡◌, ◌++◌, OnOk, IfOk};
-ghost use Rattle.dl_transcript.specs.Lines.{name, dlsn, verb_of, print_refusal, print_origin, print_fields, print_event, print_all};
+ghost use Rattle.dl_transcript.specs.Lines.{verb_of, print_origin, print_fields, print_event, print_all};
 
 use crate::event::Event;
 use crate::verb::Verb;
+use dl_text::field::{put_bytes, put_place, put_refusal};
 use dl_text::hex::put_hex;
 use dl_text::number::put_number;
 use dl_text::word::Word;
 use dl_types::client::ClientId;
-use dl_types::dlsn::Dlsn;
 use dl_types::memory::NoMemory;
-use dl_types::name::Name;
 use dl_types::payload::Payload;
-use dl_types::refusal::Refusal;
 use std::alloc::Global;
-
-fn put_name(out: &mut Vec<u8>, end: u8, stream: &Name) -> Result<(), NoMemory>
-    ensures { OnOk result (out.new.items ≡ out.old.items ++ name end stream.now) }
-{
-    out.extend_from_slice(stream.as_slice())?;
-    out.push(end)?;
-    Ok(())
-}
-
-fn put_dlsn(out: &mut Vec<u8>, end: u8, place: Dlsn) -> Result<(), NoMemory>
-    ensures { OnOk result (out.new.items ≡ out.old.items ++ dlsn end place) }
-{
-    put_number(out, b':', place.segment)?;
-    put_number(out, b':', place.entry)?;
-    put_number(out, end, u64::from(place.slot))
-}
-
-fn put_refusal(out: &mut Vec<u8>, refusal: &Refusal) -> Result<(), NoMemory>
-    ensures { OnOk result (out.new.items ≡ out.old.items ++ print_refusal refusal.now) }
-{
-    match refusal {
-        Refusal::TxidBack { last, given } => {
-            out.extend_from_slice(b"txidback ")?;
-            put_number(out, b' ', last.number())?;
-            put_number(out, b'\n', given.number())
-        }
-        Refusal::TooLong { length } => {
-            out.extend_from_slice(b"toolong ")?;
-            put_number(out, b'\n', *length)
-        }
-        Refusal::WindowFull => {
-            out.extend_from_slice(b"windowfull\n")?;
-            Ok(())
-        }
-    }
-}
 
 fn put_origin(
     out: &mut Vec<u8>,
@@ -89,7 +51,7 @@ fn put_fields(out: &mut Vec<u8>, event: &Event) -> Result<(), NoMemory>
         }
         Event::Created { client, stream } => {
             put_number(out, b' ', u64::from(client.number()))?;
-            put_name(out, b'\n', stream)
+            put_bytes(out, b'\n', stream.as_slice())
         }
         Event::Writer {
             client,
@@ -97,7 +59,7 @@ fn put_fields(out: &mut Vec<u8>, event: &Event) -> Result<(), NoMemory>
             segment,
         } => {
             put_number(out, b' ', u64::from(client.number()))?;
-            put_name(out, b' ', stream)?;
+            put_bytes(out, b' ', stream.as_slice())?;
             put_number(out, b'\n', *segment)
         }
         Event::Took {
@@ -109,7 +71,7 @@ fn put_fields(out: &mut Vec<u8>, event: &Event) -> Result<(), NoMemory>
         } => {
             put_number(out, b' ', u64::from(client.number()))?;
             put_number(out, b' ', u64::from(*call))?;
-            put_name(out, b' ', stream)?;
+            put_bytes(out, b' ', stream.as_slice())?;
             put_number(out, b' ', txid.number())?;
             put_hex(out, b'\n', payload.as_slice())
         }
@@ -130,8 +92,8 @@ fn put_fields(out: &mut Vec<u8>, event: &Event) -> Result<(), NoMemory>
             call,
             payload,
         } => {
-            put_name(out, b' ', stream)?;
-            put_dlsn(out, b' ', *place)?;
+            put_bytes(out, b' ', stream.as_slice())?;
+            put_place(out, b' ', *place)?;
             put_number(out, b' ', txid.number())?;
             put_origin(out, *client, *call, payload)
         }
@@ -142,7 +104,7 @@ fn put_fields(out: &mut Vec<u8>, event: &Event) -> Result<(), NoMemory>
         } => {
             put_number(out, b' ', u64::from(client.number()))?;
             put_number(out, b' ', u64::from(*call))?;
-            put_dlsn(out, b'\n', *place)
+            put_place(out, b'\n', *place)
         }
         Event::Refused { client, refusal } => {
             put_number(out, b' ', u64::from(client.number()))?;

@@ -8,7 +8,8 @@ use Rattle.dl_types.specs.declared.refusal.Refusal.{Refusal}
 use Rattle.dl_types.specs.declared.refusal.Refusal.TheVariants.{TxidBack, TooLong, WindowFull}
 use Rattle.dl_transcript.specs.declared.event.Event.TheVariants.{Sent, Took, Refused, Nothing}
 use Rattle.dl_transcript.specs.Legal.{History, keeps, sees}
-use Rattle.dlog.specs.Machine.{Log, Effect, segment, next_row, take, send, send_and_take, append, flush, confirm, entry_events, fits, is_window_full, payload_limit}
+use Rattle.dlog.specs.Machine.{Log, Effect, segment, next_row, take, send, send_and_take, append, flush, confirm, entry_events, fits, is_window_full}
+use Rattle.dl_types.specs.declared.payload.TheConstants.{MAX_PAYLOAD}
 use Rattle.dlog.proofs.Leads.{Leads, leads_one, leads_both, leads_to}
 use Rattle.dlog.proofs.Rows.{TookRows, took_take, took_send, took_confirm}
 use Rattle.dlog.proofs.WriterHistories.{WriterHistory, Fits, took_leads, upto, entries_lead}
@@ -73,7 +74,7 @@ refused_leads sessions g c why s h = leads_one (LogFits sessions g) s (Refused c
 pub append_leads : (sessions : ℕ) (g : Log) (txid : ℕ) (payload : List ℕ) (s : History) → LogFits sessions g s → ActLeads sessions s (append g txid payload)
 unfolding append
 append_leads sessions g txid payload s h =
-    go (nat_lt payload_limit (length payload)) (nat_lt txid g.last) (fits g payload) (is_window_full g) (ltb-false txid g.last) (TooLong (length payload)) (TxidBack g.last txid)
+    go (nat_lt MAX_PAYLOAD (length payload)) (nat_lt txid g.last) (fits g payload) (is_window_full g) (ltb-false txid g.last) (TooLong (length payload)) (TxidBack g.last txid)
   where
     go : (a b c d : Bool) → (b ≡ false → g.last ≤ txid) → (x y : Refusal)
         → ActLeads sessions s (cond {A = Effect Log} a (g, Refused g.client x ∷ []) (cond {A = Effect Log} b (g, Refused g.client y ∷ [])

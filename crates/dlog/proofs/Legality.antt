@@ -1,7 +1,7 @@
 -- The transcript of every early schedule is legal, and so is that of every text up to its stop.
 use Rattle.std.proofs.Common.{◌≡◌, ℕ, ◌+◌, ◌≤◌, Bool, true, false, cond, nat_le, nat_lt, List, [], ◌∷◌, length, None, Result, Ok, Err, refl, ap, arith}
 use Rattle.std.specs.Prelude.{is_none}
-use Rattle.dl_types.specs.declared.status.LimitName.TheVariants.{Lines, Schedule as Bytes}
+use Rattle.dl_types.specs.declared.limit.LimitName.TheVariants.{Lines, Schedule as Bytes}
 use Rattle.dl_schedule.specs.declared.step.Step.{Step}
 use Rattle.dl_schedule.specs.Faults.{parsed_early}
 use Rattle.dl_schedule.proofs.EarlyLemmas.{parsed_found}

@@ -10,7 +10,8 @@ use Rattle.dl_transcript.specs.declared.event.Event.{Event}
 use Rattle.dl_transcript.specs.declared.event.Event.TheVariants.{Refused, Nothing}
 use Rattle.dlog.specs.declared.order.Order.{Order}
 use Rattle.dlog.specs.declared.order.Order.TheVariants as order
-use Rattle.dlog.specs.Machine.{Log, State, Effect, record_size, entry_size, take, send, send_and_take, append, flush, confirm, on_log, finish, settle, one, fits, is_window_full, payload_limit, LogWithin, Within}
+use Rattle.dlog.specs.Machine.{Log, State, Effect, record_size, entry_size, take, send, send_and_take, append, flush, confirm, on_log, finish, settle, one, fits, is_window_full, LogWithin, Within}
+use Rattle.dl_types.specs.declared.payload.TheConstants.{MAX_PAYLOAD}
 
 -- each row of an entry takes its header
 pub size_of_rows : (rows : List Row) → 8 + 20 * length rows ≤ entry_size rows
@@ -29,7 +30,7 @@ still g = record { taken = omega arith; sent = omega arith }
 -- an append counts up by one at most
 append_counts : (g : Log) (txid : ℕ) (payload : List ℕ) → CountsUp g (append g txid payload).0
 unfolding append send_and_take take send
-append_counts g txid payload = go (nat_lt payload_limit (length payload)) (nat_lt txid g.last) (fits g payload) (is_window_full g)
+append_counts g txid payload = go (nat_lt MAX_PAYLOAD (length payload)) (nat_lt txid g.last) (fits g payload) (is_window_full g)
     (Refused g.client (TooLong (length payload)) ∷ []) (Refused g.client (TxidBack g.last txid) ∷ []) (Refused g.client WindowFull ∷ [])
   where
     go : (a b c d : Bool) (x y z : List Event) → CountsUp g (cond {A = Effect Log} a (g, x) (cond {A = Effect Log} b (g, y) (cond {A = Effect Log} c (take g txid payload) (cond {A = Effect Log} d (g, z) (send_and_take g txid payload))))).0

@@ -3,7 +3,7 @@ use Rattle.std.proofs.Common.{◌≡◌, ℕ, ◌+◌, ◌<◌, ◌≤◌, Bool,
 use Rattle.std.proofs.lemmas.Bool.{leb-false, ltb-false, ltb-true, lt-ltb, eqb-false}
 use Rattle.std.proofs.lemmas.List.{append-nil, nil_from_length}
 use Rattle.std.proofs.lemmas.Grind.{flat_map-append}
-use Rattle.dl_types.specs.declared.status.LimitName.TheVariants.{Lines, Schedule as Bytes}
+use Rattle.dl_types.specs.declared.limit.LimitName.TheVariants.{Lines, Schedule as Bytes}
 use Rattle.dl_schedule.specs.declared.step.Step.{Step}
 use Rattle.dl_schedule.specs.Faults.{parsed_early}
 use Rattle.dl_transcript.specs.declared.event.Event.{Event}

@@ -1,6 +1,8 @@
 -- The plain machine: one stream that a client writes, kept as plain lists, without bookies and without a network.
 use Rattle.std.specs.Prelude.{ℕ, ◌+◌, ◌<◌, Bool, nat_le, nat_lt, ◌==◌, if◌then◌else◌, List, [], ◌∷◌, ◌++◌, length, map, sum_by, Option, Some, None, IfSome}
 use Rattle.std.specs.List.{flat_map}
+use Rattle.dl_types.specs.declared.entry_bytes.TheConstants.{MAX_ENTRY}
+use Rattle.dl_types.specs.declared.payload.TheConstants.{MAX_PAYLOAD}
 use Rattle.dl_types.specs.declared.row.Row.{Row}
 use Rattle.dl_types.specs.declared.refusal.Refusal.TheVariants.{TxidBack, TooLong, WindowFull}
 use Rattle.dl_types.specs.Places.{place}
@@ -10,14 +12,6 @@ use Rattle.dl_transcript.specs.declared.event.Event.{Event}
 use Rattle.dl_transcript.specs.declared.event.Event.TheVariants.{Joined, Created, Writer, Took, Sent, Grow, Ack, Refused, Nothing}
 use Rattle.dlog.specs.declared.order.Order.{Order}
 use Rattle.dlog.specs.declared.order.Order.TheVariants as order
-
--- the most bytes of a payload and of an entry, and the most entries that may be sent and unconfirmed
-abbrev pub payload_limit : ℕ
-payload_limit = 1040384
-
--- the most bytes of an entry
-abbrev pub entry_limit : ℕ
-entry_limit = 1048576
 
 -- the most entries that may be sent and unconfirmed
 abbrev pub window : ℕ
@@ -93,7 +87,7 @@ send_and_take g txid payload = ((take (send g).0 txid payload).0, (send g).1 ++ 
 
 -- the record fits the entry under way
 abbrev pub fits : Log → List ℕ → Bool
-fits g payload = nat_le (entry_size g.filling + record_size (length payload)) entry_limit
+fits g payload = nat_le (entry_size g.filling + record_size (length payload)) MAX_ENTRY
 
 -- no further entry may be sent
 abbrev pub is_window_full : Log → Bool
@@ -103,7 +97,7 @@ is_window_full g = nat_le window (length g.waiting)
 -- the window is full
 unfoldable pub append : Log → ℕ → List ℕ → Effect Log
 append g txid payload =
-    if nat_lt payload_limit (length payload) then (g, Refused g.client (TooLong (length payload)) ∷ [])
+    if nat_lt MAX_PAYLOAD (length payload) then (g, Refused g.client (TooLong (length payload)) ∷ [])
     else if nat_lt txid g.last then (g, Refused g.client (TxidBack g.last txid) ∷ [])
     else if fits g payload then take g txid payload
     else if is_window_full g then (g, Refused g.client WindowFull ∷ [])

@@ -1,6 +1,6 @@
 -- A whole run: the steps that a text says up to its stop, and what the machine shows for them.
 use Rattle.std.specs.Prelude.{ℕ, ◌+◌, List, [], ◌∷◌, ◌++◌, length, Result, Ok, Err, nat_le, nat_lt, if◌then◌else◌}
-use Rattle.dl_types.specs.declared.status.LimitName.TheVariants.{Lines, Schedule as Bytes}
+use Rattle.dl_types.specs.declared.limit.LimitName.TheVariants.{Lines, Schedule as Bytes}
 use Rattle.dl_schedule.specs.declared.step.Step.{Step}
 use Rattle.dl_schedule.specs.Faults.{parsed_early}
 use Rattle.dl_transcript.specs.declared.event.Event.{Event}

@@ -1,4 +1,4 @@
-use dl_types::status::LimitName;
+use dl_types::limit::LimitName;
 
 /// How a run over the lines of a schedule ends.
 #[derive(Clone, Copy, Debug, PartialEq, Eq)]

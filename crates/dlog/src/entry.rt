@@ -1,6 +1,7 @@
 ghost use Rattle.std.specs.Prelude.{◌≡◌, ◌+◌, ◌<◌, ◌≤◌, ◌++◌, ◌∷◌, [], length, nat_le, ◌==◌, OnOk, OnErr, ◌^◌};
-ghost use Rattle.dlog.specs.Machine.{entry_size, record_size, entry_limit};
+ghost use Rattle.dlog.specs.Machine.{entry_size, record_size};
 
+use dl_types::entry_bytes::MAX_ENTRY;
 use dl_types::memory::NoMemory;
 use dl_types::row::Row;
 use std::alloc::Global;
@@ -11,7 +12,7 @@ const ENTRY_HEADER: usize = 8;
 
 const RECORD_HEADER: usize = 20;
 
-const ENTRY_LIMIT: usize = 1_048_576;
+const ENTRY_LIMIT: usize = MAX_ENTRY as usize;
 
 /// The rows of one entry, whose bytes are within the limit on entries. Contracts see it as the list of the rows.
 #[derive(Debug, Drop)]
@@ -62,14 +63,14 @@ impl Entry {
     /// Whether a record of so many payload bytes still fits.
     pub fn fits(&self, bytes: usize) -> bool
         requires { bytes < 2 ^ 32 }
-        ensures { result ≡ nat_le (entry_size self.now + record_size bytes) entry_limit }
+        ensures { result ≡ nat_le (entry_size self.now + record_size bytes) MAX_ENTRY }
     {
         self.size + (RECORD_HEADER + bytes) <= ENTRY_LIMIT
     }
 
     /// Adds a row behind the others. Want of memory leaves them as they are.
     pub fn push(&mut self, row: Row) -> Result<(), NoMemory>
-        requires { entry_size self.old + record_size (length row.payload) ≤ entry_limit }
+        requires { entry_size self.old + record_size (length row.payload) ≤ MAX_ENTRY }
         ensures ok { OnOk result (self.new ≡ self.old ++ row ∷ []) }
         ensures err { OnErr result (self.new ≡ self.old) }
     {

@@ -1,6 +1,7 @@
 ghost use Rattle.std.specs.Prelude.{◌≡◌, ◌+◌, ◌<◌, ◌≤◌, ◌++◌, ◌∷◌, [], length, OnOk, nat_le, map, ◌^◌, List};
 ghost use Rattle.std.specs.List.{flat_map};
-ghost use Rattle.dlog.specs.Machine.{new_log, take, send, append, flush, confirm, entry_events, grow, ack, entry_size, record_size, entry_limit, is_window_full};
+ghost use Rattle.dlog.specs.Machine.{new_log, take, send, append, flush, confirm, entry_events, grow, ack, entry_size, record_size, is_window_full};
+ghost use Rattle.dl_types.specs.declared.entry_bytes.TheConstants.{MAX_ENTRY};
 ghost use Rattle.dlog.specs.Counts.{HasRoom};
 
 use crate::entry::Entry;
@@ -10,7 +11,7 @@ use dl_types::client::ClientId;
 use dl_types::dlsn::Dlsn;
 use dl_types::memory::NoMemory;
 use dl_types::name::Name;
-use dl_types::payload::Payload;
+use dl_types::payload::{MAX_PAYLOAD, Payload};
 use dl_types::refusal::Refusal;
 use dl_types::row::{Origin, Row};
 use dl_types::txid::TxId;
@@ -22,7 +23,7 @@ use std::mem;
 pub const SEGMENT: u64 = 1;
 
 /// The most bytes of a payload.
-const PAYLOAD_LIMIT: usize = 1_040_384;
+const PAYLOAD_LIMIT: usize = MAX_PAYLOAD as usize;
 
 /// The most entries that may be sent and unconfirmed.
 const WINDOW: usize = 64;
@@ -162,7 +163,7 @@ impl Log {
     #[tactic(auto, unfolding(crate::specs::Machine::take))]
     fn take(&mut self, txid: TxId, payload: Payload, events: &mut Events) -> Result<(), NoMemory>
         requires room { self.old.taken + 1 < 2 ^ 32 }
-        requires fits { entry_size self.old.filling + record_size (length payload) ≤ entry_limit }
+        requires fits { entry_size self.old.filling + record_size (length payload) ≤ MAX_ENTRY }
         ensures state { OnOk result (self.new ≡ (take self.old txid payload).0) }
         ensures shown { OnOk result (events.new ≡ events.old ++ (take self.old txid payload).1) }
     {

@@ -40,7 +40,7 @@ pub fn program<S: Source, K: Sink, N: Sink>(
     match words {
         Err(NoMemory) => {
             let status = Status::NoMemory;
-            write_note(notes, status);
+            write_note(notes, &status);
             status
         }
         Ok(words) => dlog_main(alloc, &words, source, sink, notes),

@@ -5,12 +5,13 @@ use dl_io::memory::{MemSink, MemSource};
 use dl_io::traits::{ReadFailed, Source};
 use dl_transcript::event::Event;
 use dl_transcript::print::print_event;
-use dl_types::client::ClientId;
+use dl_types::client::{ClientId, MAX_CLIENT};
 use dl_types::dlsn::Dlsn;
 use dl_types::name::Name;
 use dl_types::payload::Payload;
-use dl_types::status::{LimitName, Status};
-use dl_types::txid::TxId;
+use dl_types::limit::LimitName;
+use dl_types::status::Status;
+use dl_types::txid::{MAX_TXID, TxId};
 use dl_types::word::Word;
 use std::alloc::Global;
 use std::test::Fail;
@@ -254,8 +255,8 @@ fn one_event_is_one_line(rt: HostRuntime) -> Result<(), Fail> {
             entry: 20,
             slot: u32::MAX,
         },
-        txid: TxId::new(TxId::MAX),
-        client: ClientId::new(ClientId::MAX),
+        txid: TxId::new(MAX_TXID),
+        client: ClientId::new(MAX_CLIENT),
         call: 7,
         payload: Payload::new(alloc, b"\x00\xff")?,
     };

@@ -61,6 +61,6 @@ pub fn dlog_main<S: Source, K: Sink, N: Sink>(
     ensures silent { result ≡ Status.Ok → notes.new ≡ notes.old }
 {
     let status = run_words(alloc, words, source, sink);
-    write_note(notes, status);
+    write_note(notes, &status);
     status
 }
