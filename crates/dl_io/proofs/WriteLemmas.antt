@@ -12,7 +12,7 @@ rose_after i j k (Err e) before h = omega (arith, before, h)
 
 -- a text that was given whole, and then another
 pub writes_then : {E F : Type 0} (a b c : Option (List ℕ)) (m n o : Option ℕ) (i j k : ℕ) (x y : List ℕ) (u : Unit {0}) (r : Result (Unit {0}) E)
-    → Writes {F} a b m n i j x (Ok u) → Writes b c n o j k y r → Writes a c m o i k (x ++ y) r
+    → Writes {E = F} a b m n i j x (Ok u) → Writes b c n o j k y r → Writes a c m o i k (x ++ y) r
 writes_then a b c m n o i j k x y u r v w = record {
   ok = appends_after a b c x y r v.ok w.ok;
   some = front_after a b c x y v.ok w.some;
@@ -22,7 +22,7 @@ writes_then a b c m n o i j k x y u r v w = record {
 
 -- a text at which the writing stopped is the front of a longer one
 pub writes_stopped : {E F : Type 0} (a b : Option (List ℕ)) (m n : Option ℕ) (i j : ℕ) (x y : List ℕ) (e : F) (f : E)
-    → Writes {F} a b m n i j x (Err e) → Writes {E} a b m n i j (x ++ y) (Err f)
+    → Writes {E = F} a b m n i j x (Err e) → Writes {E = E} a b m n i j (x ++ y) (Err f)
 writes_stopped a b m n i j x y e f v = record {
   ok = tt;
   some = front_of_longer a b x y v.some;
