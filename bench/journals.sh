@@ -21,7 +21,7 @@ for size in (16, 1024, 65536):
         open("%s/%d-%d" % (sys.argv[1], size, mebibytes), "wb").write(b"DLJRNL01" + frames + b"\0")
 P
 cat > "$bench/proofs/commit_all/Invariants.antt" <<'P'
-use Rattle.dl_journal.specs.Commits.{Stands}
+use Rattle.dl_journal.specs.Settled.{Stands}
 use Rattle.bench_journals.proofs.commit_all.Given as goal
 
 -- the journal stands for batches of its file
@@ -32,14 +32,13 @@ cat > "$bench/src/main.rt" <<'P'
 //! Counts and times the commits and loads of a journal on a depot in memory.
 #![tactic(auto)]
 ghost use Rattle.std.specs.Prelude.{◌≡◌};
-ghost use Rattle.dl_journal.specs.Commits.{Stands};
+ghost use Rattle.dl_journal.specs.Settled.{Stands};
 
 use dl_depot::depot::Depot;
 use dl_depot::device_call::DeviceCall;
 use dl_depot::file_id::FileId;
 use dl_depot::memory::MemDepot;
 use dl_journal::journal::Journal;
-use dl_journal::load::load;
 use std::alloc::{AllocError, Global};
 use std::fs;
 use std::io;
@@ -76,7 +75,6 @@ fn zeros(alloc: Global, count: usize) -> Result<Vec<u8>, AllocError> {
 }
 
 // A commit of a frame, where there is room for its body.
-#[tactic(auto, using(dl_journal::proofs::Committing::stands_after))]
 fn commit<D: Depot>(depot: &mut D, journal: &mut Journal, frame: &mut [u8]) -> bool
     requires { Stands (D.view depot.old) journal.old }
     ensures { Stands (D.view depot.new) journal.new }
@@ -166,7 +164,7 @@ fn loads(rt: &HostRuntime, name: &str) -> io::Result<()> {
     let start = Instant::now(rt)?;
     let mut count = 0u64;
     for _ in 0..LOADS {
-        if let Ok((_, batches)) = load(alloc, &mut depot, file) {
+        if let Ok((_, batches)) = Journal::load(alloc, &mut depot, file) {
             count = count.wrapping_add(batches.len() as u64);
         }
     }

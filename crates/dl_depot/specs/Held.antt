@@ -1,5 +1,5 @@
 -- What a depot in memory holds of one file, and what each call makes of it.
-use Rattle.std.specs.Prelude.{◌≡◌, ◌≤◌, ◌+◌, ◌-◌, ◌++◌, [], ◌∷◌, ◌==◌, ◌||◌, min, max, take, ℕ, List, Option, Some, None, Bool, true, false, cond, length, Result, Ok, Err}
+use Rattle.std.specs.Prelude.{◌≡◌, ◌≤◌, ◌+◌, ◌-◌, ◌++◌, [], ◌∷◌, ◌==◌, ◌||◌, min, max, take, ℕ, List, Option, Some, None, Bool, true, false, cond, length, Result, Ok, Err, MatchResult}
 use Rattle.std.specs.declared.alloc.AllocError.{AllocError}
 use Rattle.dl_depot.specs.declared.device_call.DeviceCall.{DeviceCall}
 use Rattle.dl_depot.specs.declared.device_call.DeviceCall.TheVariants.{Write, Cut, Sync}
@@ -103,6 +103,10 @@ after_work call bytes end h = record h {
   calls = h.calls ++ call ∷ [];
   fuse = set_fuse_after h.fuse;
 }
+
+-- a file becomes what a call makes of it, or memory ran out and it is as before
+abbrev pub Becomes : Held → Held → Held → Result (Unit {0}) AllocError → Type 0
+Becomes wanted old new result = MatchResult result (λ _. new ≡ wanted) (λ _. new ≡ old)
 
 -- a call that passed succeeds; one that was stopped or found no memory fails, and the fault is counted
 abbrev pub Settles : Held → Held → Result End AllocError → Result (Unit {0}) DeviceFault → Type 0

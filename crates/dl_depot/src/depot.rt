@@ -40,5 +40,6 @@ pub trait Depot {
         ensures synced { Synced (view self.old) (view self.new) file result };
 
     /// A file as it reads is one of its images.
-    ghost reads: { (d : Self) (file : ℕ) (bytes : List ℕ) → (view d).shown file ≡ Some bytes → (view d).image file (view d).moment bytes };
+    ghost reads: { (d : Self) (file : ℕ) (bytes : List ℕ) → (view d).shown file ≡ Some bytes
+        → (view d).image file (view d).moment bytes };
 }

@@ -20,7 +20,8 @@ pub fn write(
     bytes: &[u8],
 ) -> Result<(), DeviceFault>
     requires { at ≤ length held.old.shown }
-    ensures { Works file (Write at (length bytes.now)) bytes.now log.old.items log.new.items held.old held.new result }
+    ensures { Works file (Write at (length bytes.now)) bytes.now
+        log.old.items log.new.items held.old held.new result }
 {
     if held.refuses() {
         held.count_fault();
@@ -75,7 +76,8 @@ fn try_write(
     bytes: &[u8],
 ) -> Result<End, AllocError>
     requires { at ≤ length held.old.shown }
-    ensures { Tries file (Write at (length bytes.now)) bytes.now log.old.items log.new.items held.old held.new result }
+    ensures { Tries file (Write at (length bytes.now)) bytes.now
+        log.old.items log.new.items held.old held.new result }
 {
     let end = held.next_end();
     let kept = bytes.to_vec(alloc)?;

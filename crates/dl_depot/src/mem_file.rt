@@ -2,7 +2,7 @@ ghost use Rattle.std.specs.Prelude.{◌≡◌, ◌≤◌, ◌<◌, ◌-◌, ◌+
 ghost use Rattle.dl_depot.specs.declared.device_call.DeviceCall.TheVariants.{Write, Cut, Sync};
 ghost use Rattle.dl_depot.specs.declared.logged_call.End.TheVariants.{Passed, StoppedBefore, StoppedAfter};
 ghost use Rattle.dl_depot.specs.Device.{put};
-ghost use Rattle.dl_depot.specs.Held.{empty_held, is_refused, after_call, after_fault, end_by, end_of, fuse_after, set_fuse_after, has_stopped, after_work, Settles};
+ghost use Rattle.dl_depot.specs.Held.{empty_held, is_refused, after_call, after_fault, end_by, end_of, fuse_after, set_fuse_after, has_stopped, after_work, Becomes, Settles};
 
 use crate::device_call::DeviceCall;
 use crate::device_fault::DeviceFault;
@@ -38,7 +38,9 @@ impl Model for MemFile {
 // The bytes with others put at a place.
 fn put_at(old: &mut Vec<u8>, at: usize, bytes: &[u8]) -> Result<(), AllocError>
     requires { at ≤ length old.old.items }
-    ensures { MatchResult result (λ _. old.new.items ≡ put at bytes.now old.old.items) (λ _. old.new.items ≡ old.old.items) }
+    ensures { MatchResult result
+        (λ _. old.new.items ≡ put at bytes.now old.old.items)
+        (λ _. old.new.items ≡ old.old.items) }
 {
     let over = bytes.len().min(old.len() - at);
     old.extend_from_slice(&bytes[over..])?;
@@ -184,7 +186,8 @@ impl MemFile {
     /// A write that passes, or that is stopped with all bytes written.
     pub fn write(&mut self, at: u64, bytes: &[u8]) -> Result<(), AllocError>
         requires { at ≤ length self.old.shown }
-        ensures { MatchResult result (λ _. self.new ≡ after_work (Write at (length bytes.now)) bytes.now Passed self.old) (λ _. self.new ≡ self.old) }
+        ensures { Becomes (after_work (Write at (length bytes.now)) bytes.now Passed self.old)
+            self.old self.new result }
     {
         self.calls.reserve(1)?;
         put_at(&mut self.bytes, at as usize, bytes)?;
@@ -202,7 +205,7 @@ impl MemFile {
     /// A cut that passes, or that is stopped with its work done.
     pub fn cut(&mut self, size: u64) -> Result<(), AllocError>
         requires { size ≤ length self.old.shown }
-        ensures { MatchResult result (λ _. self.new ≡ after_work (Cut size) [] Passed self.old) (λ _. self.new ≡ self.old) }
+        ensures { Becomes (after_work (Cut size) [] Passed self.old) self.old self.new result }
     {
         self.calls.push(DeviceCall::Cut { size })?;
         self.bytes.truncate(size as usize);
@@ -213,7 +216,7 @@ impl MemFile {
 
     /// A sync that passes.
     pub fn sync(&mut self) -> Result<(), AllocError>
-        ensures { MatchResult result (λ _. self.new ≡ after_work Sync [] Passed self.old) (λ _. self.new ≡ self.old) }
+        ensures { Becomes (after_work Sync [] Passed self.old) self.old self.new result }
     {
         let changed = self.bytes.len() - self.same;
         self.synced.reserve(changed)?;
@@ -229,7 +232,7 @@ impl MemFile {
 
     /// A sync that is stopped with all bytes written.
     pub fn miss_sync(&mut self) -> Result<(), AllocError>
-        ensures { MatchResult result (λ _. self.new ≡ after_work Sync [] StoppedAfter self.old) (λ _. self.new ≡ self.old) }
+        ensures { Becomes (after_work Sync [] StoppedAfter self.old) self.old self.new result }
     {
         self.calls.push(DeviceCall::Sync)?;
         self.fuse = set_fuse_after(self.fuse);
@@ -238,7 +241,7 @@ impl MemFile {
 
     /// A writing call that is stopped, and leaves the bytes of the last sync.
     pub fn restore(&mut self, alloc: Global, call: DeviceCall) -> Result<(), AllocError>
-        ensures { MatchResult result (λ _. self.new ≡ after_work call [] StoppedBefore self.old) (λ _. self.new ≡ self.old) }
+        ensures { Becomes (after_work call [] StoppedBefore self.old) self.old self.new result }
     {
         let last = Vec::from_slice(alloc, &self.synced)?;
         self.calls.push(call)?;

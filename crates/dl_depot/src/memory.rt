@@ -69,7 +69,8 @@ impl Depot for MemDepot {
     fn write_at(&mut self, file: FileId, at: u64, bytes: &[u8]) -> Result<(), DeviceFault>
         requires { AtMost at (view_by self.old) file }
         ensures wrote { Wrote (view_by self.old) (view_by self.new) file at bytes.now result }
-        ensures answers { Wrought (held_by self.old) (held_by self.new) file (Write at (length bytes.now)) bytes.now result }
+        ensures answers { Wrought (held_by self.old) (held_by self.new) file
+            (Write at (length bytes.now)) bytes.now result }
     {
         let held = &mut self.files[file.index()];
         log::write(self.alloc, &mut self.log, held, file, at, bytes)
@@ -103,7 +104,9 @@ impl Stopper for MemDepot {
     /// Sets a fuse on the file. The number of the call that is to fail stays.
     fn fuse(&mut self, file: FileId, calls: u64, outcome: Outcome)
         ensures set { FuseSet (view_by self.old) (view_by self.new) file calls outcome }
-        ensures held { Sets self.old self.new file (record (held_by self.old file) { fuse = Some (record { left = calls; outcome = outcome; stopped = false }) }) }
+        ensures held { Sets self.old self.new file (record (held_by self.old file) {
+          fuse = Some (record { left = calls; outcome = outcome; stopped = false });
+        }) }
     {
         let fuse = Fuse {
             left: calls,

@@ -111,7 +111,8 @@ impl Journal {
         requires stands { Stands (D.view depot.old) self.old }
         requires body { around_body < length frame.old }
         requires room { length frame.old - around_body ≤ spare_of self.old }
-        ensures committed { Committed (D.view depot.old) (D.view depot.new) self.old self.new (body_of frame.old) result }
+        ensures committed { Committed (D.view depot.old) (D.view depot.new)
+            self.old self.new (body_of frame.old) result }
         ensures idle { self.old.failed ≡ true → depot.new ≡ depot.old }
     {
         if self.failed {
