@@ -5,7 +5,8 @@ use Rattle.std.specs.List.{flat_map}
 use Rattle.std.proofs.lemmas.List.{append-nil, length-drop, drop-append-le, nil_from_length}
 use Rattle.std.proofs.lemmas.Bool.{leb-true, le-leb}
 use Rattle.dl_codec.specs.Fields.{IsBytes}
-use Rattle.dl_record.specs.declared.entry_fault.EntryFault.{EntryFault}
+use Rattle.dl_record.specs.declared.limits.TheConstants.{ENTRY_MAX}
+use Rattle.dl_record.specs.declared.entry_flaw.EntryFlaw.{EntryFlaw}
 use Rattle.dl_record.specs.declared.stored.Stored.{Stored}
 use Rattle.dl_record.specs.declared.stored.Stored.TheVariants.{Plain, Control, Set}
 use Rattle.dl_record.specs.Stored.{txid_of, payloads_of, rows_in}
@@ -18,7 +19,7 @@ use Rattle.dl_record.proofs.Steps.{IsBytes-drop}
 use Rattle.dl_record.proofs.RecordLaws.{records_found, records_again}
 use Rattle.dl_record.proofs.WalkLaws.{length-numbered, rows_le}
 
-was_read : (r : Result (List Stored) EntryFault) → is_ok r ≡ true → r ≡ Ok (or_nothing r)
+was_read : (r : Result (List Stored) EntryFlaw) → is_ok r ≡ true → r ≡ Ok (or_nothing r)
 was_read (Ok parts) e = refl
 was_read (Err fault) e = absurd cc
 
@@ -91,7 +92,7 @@ pub record Builds (count row_total : ℕ) (bytes : List ℕ) (parts : List Store
   pub building : IsBuilding count row_total bytes
   pub same : parts_in count bytes ≡ parts
 
-builds : (count row_total : ℕ) (bytes : List ℕ) (parts : List Stored) → 8 ≤ length bytes → length bytes ≤ 1048576 → AreRecords false None parts → drop 8 bytes ≡ flat_map record_bytes parts → length parts ≡ count → row_total ≡ row_count parts → Builds count row_total bytes parts
+builds : (count row_total : ℕ) (bytes : List ℕ) (parts : List Stored) → 8 ≤ length bytes → length bytes ≤ ENTRY_MAX → AreRecords false None parts → drop 8 bytes ≡ flat_map record_bytes parts → length parts ≡ count → row_total ≡ row_count parts → Builds count row_total bytes parts
 builds count row_total bytes parts room size are stands counted rows =
     let read : records_at count false None (drop 8 bytes) 0 ≡ Ok parts = ap (λ (n : ℕ). records_at n false None (drop 8 bytes) 0) (sym counted) ∙ records_again parts false None (drop 8 bytes) 0 are (omega arith) stands in
     let same : parts_in count bytes ≡ parts = ap or_nothing read in
@@ -151,7 +152,7 @@ some_rows : (parts : List Stored) → 0 < row_count parts → 0 < length parts
 some_rows [] h = absurd (omega arith)
 some_rows (r ∷ rs) h = omega arith
 
-pub building_finish : (count row_total : ℕ) (bytes : List ℕ) → IsBytes bytes → IsBuilding count row_total bytes → 0 < row_count (parts_in count bytes) → Finished count bytes (parts_in count bytes)
+building_finish : (count row_total : ℕ) (bytes : List ℕ) → IsBytes bytes → IsBuilding count row_total bytes → 0 < row_count (parts_in count bytes) → Finished count bytes (parts_in count bytes)
 building_finish count row_total bytes fits b some =
     let parts = parts_in count bytes in
     let h = holds count row_total bytes b in
@@ -162,10 +163,15 @@ building_finish count row_total bytes fits b some =
       spelt = ap (λ (l : List ℕ). header_bytes count (length bytes - 8) ++ l) b.stands ∙ ap (λ (k : ℕ). header_bytes k (length bytes - 8) ++ body) (sym b.counted) ∙ ap (λ (k : ℕ). header_bytes (length parts) k ++ body) size;
     }
 
+-- the same of the records that contracts see
+pub finished : (count row_total : ℕ) (bytes : List ℕ) (parts : List Stored) → IsBytes bytes → IsBuilding count row_total bytes → parts_in count bytes ≡ parts → 0 < row_count parts → Finished count bytes parts
+finished count row_total bytes parts fits b same some =
+    subst (Finished count bytes) same (building_finish count row_total bytes fits b (subst (λ (p : List Stored). 0 < row_count p) (sym same) some))
+
 -- the test for room
 pub fits_room : (count row_total : ℕ) (bytes : List ℕ) (parts : List Stored) (len size : ℕ) → IsBuilding count row_total bytes → parts_in count bytes ≡ parts → len ≡ length bytes
-    → IsTrue (leb (len + 20 + size) 1048576) ↔ (length (entry_bytes parts) + 20 + size ≤ 1048576)
+    → IsTrue (leb (len + 20 + size) ENTRY_MAX) ↔ (length (entry_bytes parts) + 20 + size ≤ ENTRY_MAX)
 fits_room count row_total bytes parts len size b same is =
     let h = holds count row_total bytes b in
     let whole : len ≡ length (entry_bytes parts) = is ∙ h.long ∙ ap (λ (p : List Stored). length (entry_bytes p)) same in
-    (λ t. let room = leb-true (len + 20 + size) 1048576 t in omega (arith, room, whole), λ room. le-leb (len + 20 + size) 1048576 (omega (arith, room, whole)))
+    (λ t. let room = leb-true (len + 20 + size) ENTRY_MAX t in omega (arith, room, whole), λ room. le-leb (len + 20 + size) ENTRY_MAX (omega (arith, room, whole)))

@@ -1,17 +1,20 @@
 -- Entries: what is read is in the grammar, and what is in the grammar is read.
-use Rattle.std.proofs.Common.{◌≡◌, ℕ, ◌+◌, ◌<◌, true, false, cond, eqb, leb, ltb, not, None, List, ◌++◌, length, drop, Result, Ok, Err, refl, sym, ap, subst, ◌∙◌, append_assoc, arith, length-append}
-use Rattle.std.specs.Prelude.{IfOk, IfErr}
+use Rattle.std.proofs.Common.{◌≡◌, ℕ, ◌+◌, ◌<◌, true, false, cond, eqb, leb, ltb, not, Option, None, Some, List, ◌++◌, length, drop, Result, Ok, Err, refl, sym, ap, subst, ◌∙◌, append_assoc, arith, length-append}
+use Rattle.std.specs.Prelude.{IfOk, IfErr, IsOk, MatchOption, ◌↔◌}
 use Rattle.std.specs.List.{flat_map}
 use Rattle.std.specs.Int.{w8, w16, w32}
 use Rattle.std.proofs.lemmas.Bool.{eqb-true, leb-true, le-leb, ltb-false, le-ltb}
 use Rattle.std.proofs.lemmas.Bool.Decides.{nat_tests}
 use Rattle.dl_codec.specs.Fields.{field, IsBytes}
 use Rattle.dl_codec.proofs.FieldLaws.{width_8, width_16, width_32}
+use Rattle.dl_record.specs.declared.limits.TheConstants.{ENTRY_MAX}
 use Rattle.dl_record.specs.declared.entry_fault.EntryFault.{EntryFault}
-use Rattle.dl_record.specs.declared.entry_fault.EntryFault.TheVariants.{NoMemory, BadFlags, Compressed, Short, TooLong, BadCount, TxidBack, Long}
+use Rattle.dl_record.specs.declared.entry_flaw.EntryFlaw.{EntryFlaw}
+use Rattle.dl_record.specs.Flaws.{flaw_of}
+use Rattle.dl_record.specs.declared.entry_flaw.EntryFlaw.TheVariants.{BadFlags, Compressed, Short, TooLong, BadCount, Long}
 use Rattle.dl_record.specs.declared.stored.Stored.{Stored}
 use Rattle.dl_record.specs.Grammar.{header_bytes, record_bytes, entry_bytes, AreRecords, IsEntry, IsEntryBytes}
-use Rattle.dl_record.specs.Reading.{◌>>=◌, allowed, field_at, version_at, codec_at, count_at, size_at, header_at, records_at, entry_at, Gives, Refuses}
+use Rattle.dl_record.specs.Reading.{◌>>=◌, allowed, field_at, version_at, codec_at, count_at, size_at, header_at, records_at, entry_at, Gives, Refuses, IsFlaw, passed}
 use Rattle.dl_record.proofs.Sizes.{length-header_bytes, length-entry_bytes, count_fits}
 use Rattle.dl_record.proofs.Steps.{bind_ok, ok_is, chosen, allowed_ok, checked_ok, field_found, field_again}
 use Rattle.dl_record.proofs.RecordLaws.{records_found, records_again}
@@ -68,7 +71,7 @@ pub record EntryFound (bytes : List ℕ) (parts : List Stored) : Type 0 where
 pub entry_found : (bytes : List ℕ) (parts : List Stored) → IsBytes bytes → entry_at bytes ≡ Ok parts → EntryFound bytes parts
 unfolding entry_at
 entry_found bytes parts fits e =
-    let t = chosen (ltb 1048576 (length bytes)) (TooLong 0) (header_at bytes >>= λ count. records_at count (eqb count 1) None bytes 8) parts e in
+    let t = chosen (ltb ENTRY_MAX (length bytes)) (TooLong 0) (header_at bytes >>= λ count. records_at count (eqb count 1) None bytes 8) parts e in
     let a = bind_ok (header_at bytes) (λ count. records_at count (eqb count 1) None bytes 8) parts t.1 in
     let count = a.0 in
     let h = header_found bytes count fits a.1 in
@@ -82,7 +85,7 @@ entry_found bytes parts fits e =
       is = record {
         some = omega (arith, r.count, h.1.some);
         records = subst (λ (k : ℕ). AreRecords (eqb k 1) None parts) (sym r.count) r.are;
-        size = omega (arith, ap length whole, ltb-false 1048576 (length bytes) t.0);
+        size = omega (arith, ap length whole, ltb-false ENTRY_MAX (length bytes) t.0);
       };
       spelt = whole;
     }
@@ -102,7 +105,7 @@ entry_again parts is =
     let pb = field_again w8 width_8 (omega arith) bytes 1 2 0 (field w16 count ++ (field w32 size ++ body)) refl (omega arith) pa.behind in
     let pd = field_again w16 width_16 (omega arith) bytes 2 4 count (field w32 size ++ body) refl (omega arith) pb.behind in
     let pf = field_again w32 width_32 (omega arith) bytes 4 8 size body refl (omega (arith, len, is.size)) pd.behind in
-    let fits : ltb 1048576 (length bytes) ≡ false = le-ltb 1048576 (length bytes) is.size in
+    let fits : ltb ENTRY_MAX (length bytes) ≡ false = le-ltb ENTRY_MAX (length bytes) is.size in
     let counted : not (eqb count 0) ≡ true = grind (arith, nat_tests, some) in
     let long : ltb (length bytes) (4 + 4 + size) ≡ false = le-ltb (length bytes) (4 + 4 + size) (omega (arith, len)) in
     let short : leb (length bytes) (4 + 4 + size) ≡ true = le-leb (length bytes) (4 + 4 + size) (omega (arith, len)) in
@@ -116,18 +119,35 @@ is_found bytes (Ok parts) fits given = let f = entry_found bytes parts fits give
 is_found bytes (Err fault) fits given = tt
 
 pub is_only : (bytes : List ℕ) (r : Result (List Stored) EntryFault) → Gives (λ x. x) r (entry_at bytes) → (parts : List Stored) → IsEntry parts → bytes ≡ entry_bytes parts → Gives (λ x. x) r (Ok parts)
-is_only bytes r given parts is e = subst (λ (read : Result (List Stored) EntryFault). Gives (λ x. x) r read) (ap entry_at e ∙ entry_again parts is) given
+is_only bytes r given parts is e = subst (λ (read : Result (List Stored) EntryFlaw). Gives (λ x. x) r read) (ap entry_at e ∙ entry_again parts is) given
 
-refuses : (bytes : List ℕ) (fault : EntryFault) → entry_at bytes ≡ Err fault → (entry_at bytes ≡ Err fault) × (IsEntryBytes bytes → ⊥)
-refuses bytes fault e = (e, λ spelt. let read : entry_at bytes ≡ Ok spelt.0 = ap entry_at spelt.2 ∙ entry_again spelt.0 spelt.1 in cc)
+refuses : (bytes : List ℕ) (flaw : EntryFlaw) → entry_at bytes ≡ Err flaw → IsFlaw bytes flaw
+refuses bytes flaw e = (e, λ spelt. let read : entry_at bytes ≡ Ok spelt.0 = ap entry_at spelt.2 ∙ entry_again spelt.0 spelt.1 in cc)
 
 pub is_refused : (bytes : List ℕ) (r : Result (List Stored) EntryFault) → Gives (λ x. x) r (entry_at bytes) → IfErr r (Refuses bytes)
 is_refused bytes (Ok parts) given = tt
-is_refused bytes (Err NoMemory) given = tt
-is_refused bytes (Err (BadFlags at)) given = refuses bytes (BadFlags at) given
-is_refused bytes (Err (Compressed at)) given = refuses bytes (Compressed at) given
-is_refused bytes (Err (Short at)) given = refuses bytes (Short at) given
-is_refused bytes (Err (TooLong at)) given = refuses bytes (TooLong at) given
-is_refused bytes (Err (BadCount at)) given = refuses bytes (BadCount at) given
-is_refused bytes (Err (TxidBack at)) given = refuses bytes (TxidBack at) given
-is_refused bytes (Err (Long at)) given = refuses bytes (Long at) given
+is_refused bytes (Err fault) given = go (flaw_of fault) given
+  where
+    go : (o : Option EntryFlaw) → MatchOption o (Unit {0}) (λ flaw. entry_at bytes ≡ Err flaw) → MatchOption o (Unit {0}) (IsFlaw bytes)
+    go None given = tt
+    go (Some flaw) given = refuses bytes flaw given
+
+-- ---- what a check of the bytes says
+
+pub is_valid : (bytes : List ℕ) (r : Result (Unit {0}) EntryFlaw) → IsBytes bytes → passed (entry_at bytes) ≡ r → IsOk r ↔ IsEntryBytes bytes
+is_valid bytes r fits given = (λ ok. found (entry_at bytes) refl (subst (λ (x : Result (Unit {0}) EntryFlaw). IsOk x) (sym given) ok), λ spelt. subst (λ (x : Result (Unit {0}) EntryFlaw). IsOk x) (sym (again spelt) ∙ given) refl)
+  where
+    found : (read : Result (List Stored) EntryFlaw) → entry_at bytes ≡ read → IsOk (passed read) → IsEntryBytes bytes
+    found (Ok parts) e ok = let f = entry_found bytes parts fits e in (parts, f.is, f.spelt)
+    found (Err flaw) e ok = absurd cc
+
+    again : (spelt : IsEntryBytes bytes) → passed (entry_at bytes) ≡ Ok tt
+    again spelt = ap passed (ap entry_at spelt.2 ∙ entry_again spelt.0 spelt.1)
+
+pub is_flaw : (bytes : List ℕ) (r : Result (Unit {0}) EntryFlaw) → passed (entry_at bytes) ≡ r → IfErr r (IsFlaw bytes)
+is_flaw bytes (Ok done) given = tt
+is_flaw bytes (Err flaw) given = refuses bytes flaw (failed (entry_at bytes) given)
+  where
+    failed : (read : Result (List Stored) EntryFlaw) → passed read ≡ Err flaw → read ≡ Err flaw
+    failed (Ok parts) e = absurd cc
+    failed (Err other) e = cc

@@ -6,12 +6,14 @@ use Rattle.std.proofs.lemmas.Bool.Decides.{nat_tests}
 use Rattle.std.proofs.lemmas.List.{length-drop}
 use Rattle.dl_codec.specs.Fields.{field, IsBytes}
 use Rattle.dl_codec.proofs.FieldLaws.{width_32, width_64}
-use Rattle.dl_record.specs.declared.entry_fault.EntryFault.{EntryFault}
-use Rattle.dl_record.specs.declared.entry_fault.EntryFault.TheVariants.{BadFlags, TooLong, BadCount, TxidBack}
+use Rattle.dl_record.specs.declared.limits.TheConstants.{PAYLOAD_MAX}
+use Rattle.dl_types.specs.declared.txid.TheConstants.TxId.{MAX}
+use Rattle.dl_record.specs.declared.entry_flaw.EntryFlaw.{EntryFlaw}
+use Rattle.dl_record.specs.declared.entry_flaw.EntryFlaw.TheVariants.{BadFlags, TooLong, BadCount, TxidBack}
 use Rattle.dl_record.specs.declared.kind.Kind.{Kind}
 use Rattle.dl_record.specs.declared.kind.Kind.TheVariants as kinds
 use Rattle.dl_record.specs.declared.kind.Head.{Head}
-use Rattle.dl_record.specs.declared.stored.Stored.{Stored}
+use Rattle.dl_record.specs.declared.kind.Behind.{Behind}
 use Rattle.dl_record.specs.Reading.{◌>>=◌, allowed, field_at, end_at, may_stand, may_bear, kind_of, may_hold, position_at, kind_at, txid_at, length_at, head_at}
 use Rattle.dl_record.proofs.Steps.{bind_ok, ok_is, chosen, allowed_ok, checked_ok, field_found, field_again, end_found, end_again}
 
@@ -28,13 +30,13 @@ FitsKind alone kinds.Control = alone ≡ true
 FitsKind alone kinds.Set = Unit {0}
 
 -- The fields of a stored record, as they stand in the bytes.
-pub record HeadStands (alone : Bool) (before : Option Stored) (bytes : List ℕ) (at : ℕ) (head : Head) (size : ℕ) : Type 0 where
+pub record HeadStands (alone : Bool) (before : Option Behind) (bytes : List ℕ) (at : ℕ) (head : Head) (size : ℕ) : Type 0 where
   pub position : head.position < 2 ^ 32
   pub follows : may_stand before head.position ≡ true
   pub fits : FitsKind alone head.kind
-  pub txid : head.txid ≤ 9223372036854775807
+  pub txid : head.txid ≤ MAX
   pub bears : may_bear before head.txid ≡ true
-  pub short : size ≤ 1040384
+  pub short : size ≤ PAYLOAD_MAX
   pub holds : may_hold head.kind size ≡ true
   pub end : head.end ≡ at + 20 + size
   pub room : head.end ≤ length bytes
@@ -42,7 +44,7 @@ pub record HeadStands (alone : Bool) (before : Option Stored) (bytes : List ℕ)
 
 -- ---- flags
 
-abbrev kinded : Kind → Result Kind EntryFault
+abbrev kinded : Kind → Result Kind EntryFlaw
 kinded kind = Ok kind
 
 both : (alone : Bool) (n : ℕ) → (eqb n 1 && alone) ≡ true → (n ≡ 1) × (alone ≡ true)
@@ -72,7 +74,7 @@ kind_again alone at kinds.Set fits = refl
 
 -- ---- the fields
 
-pub head_found : (alone : Bool) (before : Option Stored) (bytes : List ℕ) (at : ℕ) (head : Head) → IsBytes bytes → head_at alone before bytes at ≡ Ok head → (size : ℕ) × HeadStands alone before bytes at head size
+pub head_found : (alone : Bool) (before : Option Behind) (bytes : List ℕ) (at : ℕ) (head : Head) → IsBytes bytes → head_at alone before bytes at ≡ Ok head → (size : ℕ) × HeadStands alone before bytes at head size
 unfolding head_at position_at kind_at txid_at length_at
 head_found alone before bytes at head fits e =
     let a = bind_ok (position_at before bytes at) (λ position. kind_at alone bytes (at + 4) >>= λ kind. txid_at before bytes (at + 8) >>= λ txid. length_at kind bytes (at + 16) >>= λ size. end_at bytes (at + 20) size >>= λ end. Ok (record { position = position; kind = kind; txid = txid; end = end })) head e in
@@ -84,11 +86,11 @@ head_found alone before bytes at head fits e =
     let a' = checked_ok (field_at w32 bytes at) (may_stand before) (BadCount at) a.0 a.1 in
     let b' = bind_ok (field_at w32 bytes (at + 4)) (λ n. kind_of alone (at + 4) n) b.0 b.1 in
     let b'' = kind_found alone (at + 4) b'.0 b.0 b'.2 in
-    let d' = bind_ok (field_at w64 bytes (at + 8)) (λ n. cond (ltb 9223372036854775807 n) (Err (BadFlags (at + 8))) (allowed (may_bear before n) (TxidBack (at + 8)) n)) d.0 d.1 in
-    let d'' = chosen (ltb 9223372036854775807 d'.0) (BadFlags (at + 8)) (allowed (may_bear before d'.0) (TxidBack (at + 8)) d'.0) d.0 d'.2 in
+    let d' = bind_ok (field_at w64 bytes (at + 8)) (λ n. cond (ltb MAX n) (Err (BadFlags (at + 8))) (allowed (may_bear before n) (TxidBack (at + 8)) n)) d.0 d.1 in
+    let d'' = chosen (ltb MAX d'.0) (BadFlags (at + 8)) (allowed (may_bear before d'.0) (TxidBack (at + 8)) d'.0) d.0 d'.2 in
     let d3 = allowed_ok (may_bear before d'.0) (TxidBack (at + 8)) d'.0 d.0 d''.1 in
-    let f' = bind_ok (field_at w32 bytes (at + 16)) (λ n. cond (ltb 1040384 n) (Err (TooLong (at + 16))) (allowed (may_hold b.0 n) (BadCount (at + 16)) n)) f.0 f.1 in
-    let f'' = chosen (ltb 1040384 f'.0) (TooLong (at + 16)) (allowed (may_hold b.0 f'.0) (BadCount (at + 16)) f'.0) f.0 f'.2 in
+    let f' = bind_ok (field_at w32 bytes (at + 16)) (λ n. cond (ltb PAYLOAD_MAX n) (Err (TooLong (at + 16))) (allowed (may_hold b.0 n) (BadCount (at + 16)) n)) f.0 f.1 in
+    let f'' = chosen (ltb PAYLOAD_MAX f'.0) (TooLong (at + 16)) (allowed (may_hold b.0 f'.0) (BadCount (at + 16)) f'.0) f.0 f'.2 in
     let f3 = allowed_ok (may_hold b.0 f'.0) (BadCount (at + 16)) f'.0 f.0 f''.1 in
     let pa = field_found w32 width_32 bytes at (at + 4) a.0 fits refl a'.0 in
     let pb = field_found w32 width_32 bytes (at + 4) (at + 8) b'.0 fits (omega arith) b'.1 in
@@ -99,9 +101,9 @@ head_found alone before bytes at head fits e =
       position = pa.fits;
       follows = a'.1;
       fits = b''.1;
-      txid = omega (arith, ltb-false 9223372036854775807 d'.0 d''.0, d3.1);
+      txid = omega (arith, ltb-false MAX d'.0 d''.0, d3.1);
       bears = ap (may_bear before) (sym d3.1) ∙ d3.0;
-      short = omega (arith, ltb-false 1040384 f'.0 f''.0, f3.1);
+      short = omega (arith, ltb-false PAYLOAD_MAX f'.0 f''.0, f3.1);
       holds = ap (may_hold b.0) (sym f3.1) ∙ f3.0;
       end = pg.0;
       room = pg.1;
@@ -112,13 +114,13 @@ head_found alone before bytes at head fits e =
     (f.0, subst (λ (h : Head). HeadStands alone before bytes at h f.0) {x = made} {y = head} (ok_is made head g.2) whole)
 
 -- What fields that stand there read as.
-pub record HeadReads (alone : Bool) (before : Option Stored) (bytes : List ℕ) (at : ℕ) (head : Head) (rest : List ℕ) : Type 0 where
+pub record HeadReads (alone : Bool) (before : Option Behind) (bytes : List ℕ) (at : ℕ) (head : Head) (rest : List ℕ) : Type 0 where
   pub reads : head_at alone before bytes at ≡ Ok head
   pub behind : drop (at + 20) bytes ≡ rest
   pub room : head.end ≤ length bytes
 
-pub head_again : (alone : Bool) (before : Option Stored) (bytes : List ℕ) (at : ℕ) (position txid size : ℕ) (kind : Kind) (rest : List ℕ) → position < 2 ^ 32 → may_stand before position ≡ true → FitsKind alone kind
-    → txid ≤ 9223372036854775807 → may_bear before txid ≡ true → size ≤ 1040384 → may_hold kind size ≡ true → size ≤ length rest
+pub head_again : (alone : Bool) (before : Option Behind) (bytes : List ℕ) (at : ℕ) (position txid size : ℕ) (kind : Kind) (rest : List ℕ) → position < 2 ^ 32 → may_stand before position ≡ true → FitsKind alone kind
+    → txid ≤ MAX → may_bear before txid ≡ true → size ≤ PAYLOAD_MAX → may_hold kind size ≡ true → size ≤ length rest
     → drop at bytes ≡ field w32 position ++ (field w32 (kind_flags kind) ++ (field w64 txid ++ (field w32 size ++ rest)))
     → HeadReads alone before bytes at (record { position = position; kind = kind; txid = txid; end = at + 20 + size }) rest
 unfolding head_at position_at kind_at txid_at length_at
@@ -131,8 +133,8 @@ head_again alone before bytes at position txid size kind rest position-fits stan
     let pf = field_again w32 width_32 (omega arith) bytes (at + 16) (at + 20) size rest (omega arith) (omega arith) pd.behind in
     let long : length bytes - (at + 20) ≡ length rest = sym (length-drop (at + 20) bytes) ∙ ap length pf.behind in
     let end : at + 20 + size ≤ length bytes = omega (arith, pf.room, long, room) in
-    let small : ltb 9223372036854775807 txid ≡ false = le-ltb 9223372036854775807 txid txid-fits in
-    let short : ltb 1040384 size ≡ false = le-ltb 1040384 size size-fits in
+    let small : ltb MAX txid ≡ false = le-ltb MAX txid txid-fits in
+    let short : ltb PAYLOAD_MAX size ≡ false = le-ltb PAYLOAD_MAX size size-fits in
     record {
       reads = rw (pa.reads, stands, pb.reads, kind_again alone (at + 4) kind fits, pd.reads, small, bears, pf.reads, short, holds, end_again bytes (at + 20) size end) refl;
       behind = pf.behind;

@@ -8,3 +8,4 @@ pub mod RecordLaws
 pub mod Entries
 pub mod WalkLaws
 pub mod BuildingLaws
+pub mod CheckLaws

@@ -8,10 +8,11 @@ use Rattle.std.proofs.lemmas.Bool.Decides.{nat_tests}
 use Rattle.std.proofs.lemmas.List.{drop_all, length-drop}
 use Rattle.dl_codec.specs.Fields.{field, IsBytes}
 use Rattle.dl_codec.proofs.FieldLaws.{width_8, width_16, width_32}
-use Rattle.dl_record.specs.declared.entry_fault.EntryFault.{EntryFault}
-use Rattle.dl_record.specs.declared.entry_fault.EntryFault.TheVariants.{BadFlags, Compressed, BadCount, Long}
+use Rattle.dl_record.specs.declared.limits.TheConstants.{PAYLOAD_MAX, MEMBERS_MAX}
+use Rattle.dl_record.specs.declared.entry_flaw.EntryFlaw.{EntryFlaw}
+use Rattle.dl_record.specs.declared.entry_flaw.EntryFlaw.TheVariants.{BadFlags, Compressed, BadCount, Long}
 use Rattle.dl_record.specs.Grammar.{member_bytes, set_bytes}
-use Rattle.dl_record.specs.Reading.{◌>>=◌, field_at, end_at, codec_at, zero_at, members_count_at, member_end_at, members_at, set_at}
+use Rattle.dl_record.specs.Reading.{◌>>=◌, field_at, end_at, codec_at, zero_at, members_count_at, set_count_at, member_end_at, members_at, set_at}
 use Rattle.dl_record.proofs.MemberSizes.{length-member_bytes, length-set_bytes}
 use Rattle.dl_record.proofs.Steps.{bind_ok, ok_is, checked_ok, field_found, field_again, part_found, part_again, end_found, end_again}
 
@@ -55,10 +56,10 @@ member_again bytes at payload rest fits e =
 -- ---- the members
 
 -- whether the bytes end at a place
-pub ends_there : {A : Type 0} (at : ℕ) (bytes : List ℕ) (x y : A) → (let r : Result A EntryFault = cond (eqb at (length bytes)) (Ok x) (Err (Long at)) in r) ≡ Ok y → (at ≡ length bytes) × (x ≡ y)
+pub ends_there : {A : Type 0} (at : ℕ) (bytes : List ℕ) (x y : A) → (let r : Result A EntryFlaw = cond (eqb at (length bytes)) (Ok x) (Err (Long at)) in r) ≡ Ok y → (at ≡ length bytes) × (x ≡ y)
 ends_there {A} at bytes x y = go (eqb at (length bytes)) refl
   where
-    go : (t : Bool) → eqb at (length bytes) ≡ t → (let r : Result A EntryFault = cond t (Ok x) (Err (Long at)) in r) ≡ Ok y → (at ≡ length bytes) × (x ≡ y)
+    go : (t : Bool) → eqb at (length bytes) ≡ t → (let r : Result A EntryFlaw = cond t (Ok x) (Err (Long at)) in r) ≡ Ok y → (at ≡ length bytes) × (x ≡ y)
     go true is e = (eqb-true at (length bytes) is, cc)
     go false is e = absurd cc
 
@@ -99,24 +100,25 @@ members_again (p ∷ ps) bytes at fits room e =
 pub record SetFound (bytes : List ℕ) (at : ℕ) (ps : List (List ℕ)) : Type 0 where
   pub stands : drop at bytes ≡ set_bytes ps
   pub some : 1 ≤ length ps
-  pub most : length ps ≤ 64
+  pub most : length ps ≤ MEMBERS_MAX
 
 pub set_found : (bytes : List ℕ) (at : ℕ) (ps : List (List ℕ)) → IsBytes bytes → set_at bytes at ≡ Ok ps → SetFound bytes at ps
-unfolding set_at codec_at zero_at members_count_at set_bytes
+unfolding set_at set_count_at codec_at zero_at members_count_at set_bytes
 set_found bytes at ps fits e =
-    let a = bind_ok (codec_at bytes at) (λ codec. zero_at bytes (at + 1) >>= λ zero. members_count_at bytes (at + 2) >>= λ count. members_at count bytes (at + 4)) ps e in
-    let b = bind_ok (zero_at bytes (at + 1)) (λ zero. members_count_at bytes (at + 2) >>= λ count. members_at count bytes (at + 4)) ps a.2 in
-    let d = bind_ok (members_count_at bytes (at + 2)) (λ count. members_at count bytes (at + 4)) ps b.2 in
+    let h = bind_ok (set_count_at bytes at) (λ count. members_at count bytes (at + 4)) ps e in
+    let a = bind_ok (codec_at bytes at) (λ codec. zero_at bytes (at + 1) >>= λ zero. members_count_at bytes (at + 2)) h.0 h.1 in
+    let b = bind_ok (zero_at bytes (at + 1)) (λ zero. members_count_at bytes (at + 2)) h.0 a.2 in
+    let d = b.2 in
     let a' = checked_ok (field_at w8 bytes at) (λ n. eqb n 0) (Compressed at) a.0 a.1 in
     let b' = checked_ok (field_at w8 bytes (at + 1)) (λ n. eqb n 0) (BadFlags (at + 1)) b.0 b.1 in
-    let d' = checked_ok (field_at w16 bytes (at + 2)) (λ n. leb 1 n && leb n 64) (BadCount (at + 2)) d.0 d.1 in
+    let d' = checked_ok (field_at w16 bytes (at + 2)) (λ n. leb 1 n && leb n MEMBERS_MAX) (BadCount (at + 2)) h.0 d in
     let fa = field_found w8 width_8 bytes at (at + 1) a.0 fits refl a'.0 in
     let fb = field_found w8 width_8 bytes (at + 1) (at + 2) b.0 fits (omega arith) b'.0 in
-    let fd = field_found w16 width_16 bytes (at + 2) (at + 4) d.0 fits (omega arith) d'.0 in
+    let fd = field_found w16 width_16 bytes (at + 2) (at + 4) h.0 fits (omega arith) d'.0 in
     let za : a.0 ≡ 0 = eqb-true a.0 0 a'.1 in
     let zb : b.0 ≡ 0 = eqb-true b.0 0 b'.1 in
-    let m = members_found d.0 bytes (at + 4) ps fits d.2 in
-    let count : d.0 ≡ length ps = sym m.count in
+    let m = members_found h.0 bytes (at + 4) ps fits h.2 in
+    let count : h.0 ≡ length ps = sym m.count in
     let passes = d'.1 in
     record {
       stands = fa.stands ∙ ap (λ (k : ℕ). field w8 k ++ drop (at + 1) bytes) za
@@ -126,13 +128,13 @@ set_found bytes at ps fits e =
       most = grind (arith, nat_tests, passes, count);
     }
 
-pub set_again : (bytes : List ℕ) (at : ℕ) (ps : List (List ℕ)) → 1 ≤ length ps → length ps ≤ 64 → length (set_bytes ps) ≤ 1040384 → drop at bytes ≡ set_bytes ps → set_at bytes at ≡ Ok ps
-unfolding set_at codec_at zero_at members_count_at set_bytes
+pub set_again : (bytes : List ℕ) (at : ℕ) (ps : List (List ℕ)) → 1 ≤ length ps → length ps ≤ MEMBERS_MAX → length (set_bytes ps) ≤ PAYLOAD_MAX → drop at bytes ≡ set_bytes ps → set_at bytes at ≡ Ok ps
+unfolding set_at set_count_at codec_at zero_at members_count_at set_bytes
 set_again bytes at ps some most size e =
     let members = flat_map member_bytes ps in
     let fa = field_again w8 width_8 (omega arith) bytes at (at + 1) 0 (field w8 0 ++ (field w16 (length ps) ++ members)) refl (omega arith) e in
     let fb = field_again w8 width_8 (omega arith) bytes (at + 1) (at + 2) 0 (field w16 (length ps) ++ members) (omega arith) (omega arith) fa.behind in
     let fd = field_again w16 width_16 (omega arith) bytes (at + 2) (at + 4) (length ps) members (omega arith) (omega arith) fb.behind in
-    let passes : (leb 1 (length ps) && leb (length ps) 64) ≡ true = grind (arith, nat_tests) in
+    let passes : (leb 1 (length ps) && leb (length ps) MEMBERS_MAX) ≡ true = grind (arith, nat_tests) in
     let short : length members < 2 ^ 32 = omega (arith, size, length-set_bytes ps) in
     rw (fa.reads, fb.reads, fd.reads, passes) (members_again ps bytes (at + 4) short fd.room fd.behind)

@@ -7,13 +7,16 @@ use Rattle.std.proofs.lemmas.Bool.{eqb-true, eq-eqb, leb-true, le-leb}
 use Rattle.std.proofs.lemmas.List.{drop_all, length-drop}
 use Rattle.std.proofs.lemmas.Slice.{between_is}
 use Rattle.dl_codec.specs.Fields.{field, IsBytes}
+use Rattle.dl_record.specs.declared.limits.TheConstants.{PAYLOAD_MAX}
+use Rattle.dl_types.specs.declared.txid.TheConstants.TxId.{MAX}
 use Rattle.dl_record.specs.declared.kind.Kind.{Kind}
 use Rattle.dl_record.specs.declared.kind.Kind.TheVariants as kinds
+use Rattle.dl_record.specs.declared.kind.Behind.{Behind}
 use Rattle.dl_record.specs.declared.stored.Stored.{Stored}
 use Rattle.dl_record.specs.declared.stored.Stored.TheVariants.{Plain, Control, Set}
 use Rattle.dl_record.specs.Stored.{position_of, txid_of}
 use Rattle.dl_record.specs.Grammar.{payload_bytes, flags_of, fields_and_payload, record_bytes, IsMembers, IsRecord, IsAllowed, Follows, AreRecords}
-use Rattle.dl_record.specs.Reading.{◌>>=◌, may_stand, may_bear, may_hold, head_at, set_at, stored_at, content_at, record_at, records_at}
+use Rattle.dl_record.specs.Reading.{◌>>=◌, behind, may_stand, may_bear, may_hold, head_at, set_at, stored_at, content_at, record_at, records_at}
 use Rattle.dl_record.proofs.Steps.{IsBytes-take, bind_ok, ok_is, part_found, part_again}
 use Rattle.dl_record.proofs.Members.{set_found, set_again, ends_there}
 use Rattle.dl_record.proofs.Heads.{kind_flags, FitsKind, head_found, head_again}
@@ -50,7 +53,7 @@ kind_in (Plain position txid payload) = kinds.Plain
 kind_in (Control position txid) = kinds.Control
 kind_in (Set position txid payloads) = kinds.Set
 
-content_again : (r : Stored) (bytes : List ℕ) (at end : ℕ) → IsMembers r → length (payload_bytes r) ≤ 1040384 → slice_range bytes at end ≡ payload_bytes r → stored_at (kind_in r) (position_of r) (txid_of r) bytes at end ≡ Ok r
+content_again : (r : Stored) (bytes : List ℕ) (at end : ℕ) → IsMembers r → length (payload_bytes r) ≤ PAYLOAD_MAX → slice_range bytes at end ≡ payload_bytes r → stored_at (kind_in r) (position_of r) (txid_of r) bytes at end ≡ Ok r
 content_again (Plain position txid payload) bytes at end members short e = rw e refl
 content_again (Control position txid) bytes at end members short e = refl
 content_again (Set position txid payloads) bytes at end members short e =
@@ -74,15 +77,20 @@ kind_holds (Set position txid payloads) = refl
 
 -- ---- what the record before asks
 
-follows_found : (before : Option Stored) (r : Stored) → may_stand before (position_of r) ≡ true → may_bear before (txid_of r) ≡ true → Follows before r
+-- what the record before asks of the next one, as a reader keeps it
+abbrev pub behind_all : Option Stored → Option Behind
+behind_all None = None
+behind_all (Some r) = Some (behind r)
+
+follows_found : (before : Option Stored) (r : Stored) → may_stand (behind_all before) (position_of r) ≡ true → may_bear (behind_all before) (txid_of r) ≡ true → Follows before r
 follows_found None r stands bears = tt
 follows_found (Some b) r stands bears = record { position = eqb-true _ _ stands; txid = leb-true _ _ bears }
 
-stands_again : (before : Option Stored) (r : Stored) → Follows before r → may_stand before (position_of r) ≡ true
+stands_again : (before : Option Stored) (r : Stored) → Follows before r → may_stand (behind_all before) (position_of r) ≡ true
 stands_again None r h = refl
 stands_again (Some b) r h = eq-eqb _ _ h.position
 
-bears_again : (before : Option Stored) (r : Stored) → Follows before r → may_bear before (txid_of r) ≡ true
+bears_again : (before : Option Stored) (r : Stored) → Follows before r → may_bear (behind_all before) (txid_of r) ≡ true
 bears_again None r h = refl
 bears_again (Some b) r h = le-leb _ _ h.txid
 
@@ -100,14 +108,14 @@ pub record RecordFound (alone : Bool) (before : Option Stored) (bytes : List ℕ
   pub room : end ≤ length bytes
   pub stands : drop at bytes ≡ record_bytes r ++ drop end bytes
 
-pub record_found : (alone : Bool) (before : Option Stored) (bytes : List ℕ) (at : ℕ) (x : Stored × ℕ) → IsBytes bytes → record_at alone before bytes at ≡ Ok x → RecordFound alone before bytes at x.0 x.1
+pub record_found : (alone : Bool) (before : Option Stored) (bytes : List ℕ) (at : ℕ) (x : Stored × ℕ) → IsBytes bytes → record_at alone (behind_all before) bytes at ≡ Ok x → RecordFound alone before bytes at x.0 x.1
 unfolding record_at
 record_found alone before bytes at x fits e =
-    let a = bind_ok (head_at alone before bytes at) (λ head. content_at head bytes (at + 20) >>= λ stored. Ok (stored, head.end)) x e in
+    let a = bind_ok (head_at alone (behind_all before) bytes at) (λ head. content_at head bytes (at + 20) >>= λ stored. Ok (stored, head.end)) x e in
     let head = a.0 in
     let b = bind_ok (content_at head bytes (at + 20)) (λ stored. Ok (stored, head.end)) x a.2 in
     let r = b.0 in
-    let h = head_found alone before bytes at head fits a.1 in
+    let h = head_found alone (behind_all before) bytes at head fits a.1 in
     let size = h.0 in
     let s = h.1 in
     let p = part_found bytes (at + 20) head.end (omega (arith, s.end)) s.room in
@@ -122,19 +130,19 @@ record_found alone before bytes at x fits e =
     subst (λ (y : Stored × ℕ). RecordFound alone before bytes at y.0 y.1) (ok_is (r, head.end) x b.2) (record {
       is = record {
         position = subst (λ (k : ℕ). k < 2 ^ 32) (sym c.position) s.position;
-        txid = subst (λ (k : ℕ). k ≤ 9223372036854775807) (sym c.txid) s.txid;
-        payload = subst (λ (l : List ℕ). length l ≤ 1040384) (sym c.payload) (omega (arith, len, s.short));
+        txid = subst (λ (k : ℕ). k ≤ MAX) (sym c.txid) s.txid;
+        payload = subst (λ (l : List ℕ). length l ≤ PAYLOAD_MAX) (sym c.payload) (omega (arith, len, s.short));
         members = c.members;
       };
       allowed = c.allowed;
-      follows = follows_found before r (ap (may_stand before) c.position ∙ s.follows) (ap (may_bear before) c.txid ∙ s.bears);
+      follows = follows_found before r (ap (may_stand (behind_all before)) c.position ∙ s.follows) (ap (may_bear (behind_all before)) c.txid ∙ s.bears);
       room = s.room;
       stands = sym whole ∙ ap (λ (l : List ℕ). l ++ drop head.end bytes) (sym spelt);
     })
 
 -- What a stored record that stands there reads as.
 pub record RecordReads (alone : Bool) (before : Option Stored) (bytes : List ℕ) (at : ℕ) (r : Stored) (rest : List ℕ) : Type 0 where
-  pub reads : record_at alone before bytes at ≡ Ok (r, at + 20 + length (payload_bytes r))
+  pub reads : record_at alone (behind_all before) bytes at ≡ Ok (r, at + 20 + length (payload_bytes r))
   pub behind : drop (at + 20 + length (payload_bytes r)) bytes ≡ rest
   pub room : at + 20 + length (payload_bytes r) ≤ length bytes
 
@@ -146,7 +154,7 @@ record_again alone before bytes at r rest is allowed follows e =
     let stands : drop at bytes ≡ field w32 (position_of r) ++ (field w32 (kind_flags (kind_in r)) ++ (field w64 (txid_of r) ++ (field w32 size ++ (payload ++ rest)))) =
     e ∙ fields_and_payload-append (position_of r) (flags_of r) (txid_of r) payload rest
     ∙ ap (λ (k : ℕ). field w32 (position_of r) ++ (field w32 k ++ (field w64 (txid_of r) ++ (field w32 size ++ (payload ++ rest))))) (sym (kind_flags-kind_in r)) in
-    let h = head_again alone before bytes at (position_of r) (txid_of r) size (kind_in r) (payload ++ rest) is.position (stands_again before r follows) (kind_fits alone r allowed) is.txid (bears_again before r follows) is.payload (kind_holds r) (omega (arith, length-append payload rest)) stands in
+    let h = head_again alone (behind_all before) bytes at (position_of r) (txid_of r) size (kind_in r) (payload ++ rest) is.position (stands_again before r follows) (kind_fits alone r allowed) is.txid (bears_again before r follows) is.payload (kind_holds r) (omega (arith, length-append payload rest)) stands in
     let p = part_again bytes (at + 20) (at + 20 + size) payload rest refl h.behind in
     let c = content_again r bytes (at + 20) (at + 20 + size) is.members is.payload p.reads in
     record { reads = rw (h.reads, c) refl; behind = p.behind; room = h.room }
@@ -158,14 +166,14 @@ pub record RecordsFound (n : ℕ) (alone : Bool) (before : Option Stored) (bytes
   pub stands : drop at bytes ≡ flat_map record_bytes rs
   pub count : length rs ≡ n
 
-pub records_found : (n : ℕ) (alone : Bool) (before : Option Stored) (bytes : List ℕ) (at : ℕ) (rs : List Stored) → IsBytes bytes → records_at n alone before bytes at ≡ Ok rs → RecordsFound n alone before bytes at rs
+pub records_found : (n : ℕ) (alone : Bool) (before : Option Stored) (bytes : List ℕ) (at : ℕ) (rs : List Stored) → IsBytes bytes → records_at n alone (behind_all before) bytes at ≡ Ok rs → RecordsFound n alone before bytes at rs
 unfolding records_at
 records_found zero alone before bytes at rs fits e =
     let g = ends_there at bytes [] rs e in
     subst (RecordsFound zero alone before bytes at) g.1 (record { are = tt; stands = drop_all at bytes (omega (arith, g.0)); count = refl })
 records_found (suc n) alone before bytes at rs fits e =
-    let u = bind_ok (record_at alone before bytes at) (λ first. records_at n alone (Some first.0) bytes first.1 >>= λ others. Ok (first.0 ∷ others)) rs e in
-    let v = bind_ok (records_at n alone (Some u.0.0) bytes u.0.1) (λ others. Ok (u.0.0 ∷ others)) rs u.2 in
+    let u = bind_ok (record_at alone (behind_all before) bytes at) (λ first. records_at n alone (Some (behind first.0)) bytes first.1 >>= λ others. Ok (first.0 ∷ others)) rs e in
+    let v = bind_ok (records_at n alone (Some (behind u.0.0)) bytes u.0.1) (λ others. Ok (u.0.0 ∷ others)) rs u.2 in
     let one = record_found alone before bytes at u.0 fits u.1 in
     let more = records_found n alone (Some u.0.0) bytes u.0.1 v.0 fits v.1 in
     subst (RecordsFound (suc n) alone before bytes at) (ok_is (u.0.0 ∷ v.0) rs v.2) (record {
@@ -174,7 +182,7 @@ records_found (suc n) alone before bytes at rs fits e =
       count = ap suc more.count;
     })
 
-pub records_again : (rs : List Stored) (alone : Bool) (before : Option Stored) (bytes : List ℕ) (at : ℕ) → AreRecords alone before rs → at ≤ length bytes → drop at bytes ≡ flat_map record_bytes rs → records_at (length rs) alone before bytes at ≡ Ok rs
+pub records_again : (rs : List Stored) (alone : Bool) (before : Option Stored) (bytes : List ℕ) (at : ℕ) → AreRecords alone before rs → at ≤ length bytes → drop at bytes ≡ flat_map record_bytes rs → records_at (length rs) alone (behind_all before) bytes at ≡ Ok rs
 unfolding records_at
 records_again [] alone before bytes at are room e =
     let end : at ≡ length bytes = omega (arith, room, sym (length-drop at bytes) ∙ ap length e) in

@@ -7,6 +7,8 @@ use Rattle.std.proofs.lemmas.Bool.{cases_lt}
 use Rattle.std.proofs.lemmas.List.Elements.{All-from_recursion}
 use Rattle.dl_codec.specs.Fields.{field}
 use Rattle.dl_codec.proofs.FieldLaws.{width_8, width_16, width_32, width_64}
+use Rattle.dl_record.specs.declared.limits.TheConstants.{ENTRY_MAX}
+use Rattle.dl_types.specs.declared.txid.TheConstants.TxId.{MAX}
 use Rattle.dl_record.specs.declared.stored.Stored.{Stored}
 use Rattle.dl_record.specs.declared.stored.Stored.TheVariants.{Control}
 use Rattle.dl_record.specs.Stored.{position_of, txid_of}
@@ -57,14 +59,14 @@ pub each_record : (parts : List Stored) → IsEntry parts → All IsRecord parts
 each_record parts h = All-from_recursion IsRecord parts (each_by_recursion _ None parts h.records)
 
 -- an entry has fewer stored records than its header can count
-pub count_fits : (parts : List Stored) → IsEntry parts → 20 * length parts + 8 ≤ 1048576
+pub count_fits : (parts : List Stored) → IsEntry parts → 20 * length parts + 8 ≤ ENTRY_MAX
 count_fits parts h = omega (arith, count_le parts, length-entry_bytes parts, h.size)
 
-pub body_fits : (parts : List Stored) → IsEntry parts → length (flat_map record_bytes parts) + 8 ≤ 1048576
+pub body_fits : (parts : List Stored) → IsEntry parts → length (flat_map record_bytes parts) + 8 ≤ ENTRY_MAX
 body_fits parts h = omega (arith, length-entry_bytes parts, h.size)
 
 -- a control record alone is an entry
-pub control_entry : (position txid : ℕ) → position < 2 ^ 32 → txid ≤ 9223372036854775807 → IsEntry (Control position txid ∷ [])
+pub control_entry : (position txid : ℕ) → position < 2 ^ 32 → txid ≤ MAX → IsEntry (Control position txid ∷ [])
 control_entry position txid p t = record {
   some = omega arith;
   records = (record { position = p; txid = t; payload = omega arith; members = tt }, (refl, (tt, tt)));

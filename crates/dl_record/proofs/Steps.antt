@@ -6,7 +6,7 @@ use Rattle.std.proofs.lemmas.Bool.{cases_lt, leb-true, le-leb}
 use Rattle.std.proofs.lemmas.List.{take_at, drop_at, take-append-drop, length-take, length-take-le, length-drop, drop-drop, get_or-drop, get_or-take, get_or_past}
 use Rattle.dl_codec.specs.declared.short.Short as codec
 use Rattle.dl_codec.specs.Fields.{field, number_of, number_at, short_at, IsBytes, HasOneSpelling}
-use Rattle.dl_record.specs.declared.entry_fault.EntryFault.{EntryFault}
+use Rattle.dl_record.specs.declared.entry_flaw.EntryFlaw.{EntryFlaw}
 use Rattle.dl_record.specs.Reading.{◌>>=◌, or_short, field_at, allowed, end_at}
 
 pub IsBytes-drop : (n : ℕ) (bytes : List ℕ) → IsBytes bytes → IsBytes (drop n bytes)
@@ -21,27 +21,27 @@ IsBytes-take n bytes h i = elim (cases_lt i n) [
 -- ---- steps
 
 -- the value of a step that did not fail
-pub bind_ok : {A B : Type 0} (r : Result A EntryFault) (f : A → Result B EntryFault) (y : B) → (r >>= f) ≡ Ok y → (x : A) × (r ≡ Ok x) × (f x ≡ Ok y)
+pub bind_ok : {A B : Type 0} (r : Result A EntryFlaw) (f : A → Result B EntryFlaw) (y : B) → (r >>= f) ≡ Ok y → (x : A) × (r ≡ Ok x) × (f x ≡ Ok y)
 bind_ok (Ok x) f y e = (x, refl, e)
 bind_ok (Err fault) f y e = absurd cc
 
-abbrev done : {A : Type 0} → A → Result A EntryFault
+abbrev done : {A : Type 0} → A → Result A EntryFlaw
 done x = Ok x
 
 pub ok_is : {A : Type 0} (x y : A) → done x ≡ done y → x ≡ y
 ok_is x y e = cc
 
 -- a test that was passed
-pub chosen : {A : Type 0} (b : Bool) (fault : EntryFault) (r : Result A EntryFault) (y : A) → cond b (Err fault) r ≡ Ok y → (b ≡ false) × (r ≡ Ok y)
+pub chosen : {A : Type 0} (b : Bool) (fault : EntryFlaw) (r : Result A EntryFlaw) (y : A) → cond b (Err fault) r ≡ Ok y → (b ≡ false) × (r ≡ Ok y)
 chosen true fault r y e = absurd cc
 chosen false fault r y e = (refl, e)
 
-pub allowed_ok : (b : Bool) (fault : EntryFault) (n m : ℕ) → allowed b fault n ≡ Ok m → (b ≡ true) × (n ≡ m)
+pub allowed_ok : (b : Bool) (fault : EntryFlaw) (n m : ℕ) → allowed b fault n ≡ Ok m → (b ≡ true) × (n ≡ m)
 allowed_ok true fault n m e = (refl, cc)
 allowed_ok false fault n m e = absurd cc
 
 -- a number that passed its test
-pub checked_ok : (read : Result ℕ EntryFault) (p : ℕ → Bool) (fault : EntryFault) (m : ℕ) → (read >>= λ n. allowed (p n) fault n) ≡ Ok m → (read ≡ Ok m) × (p m ≡ true)
+pub checked_ok : (read : Result ℕ EntryFlaw) (p : ℕ → Bool) (fault : EntryFlaw) (m : ℕ) → (read >>= λ n. allowed (p n) fault n) ≡ Ok m → (read ≡ Ok m) × (p m ≡ true)
 checked_ok read p fault m e =
     let u = bind_ok read (λ n. allowed (p n) fault n) m e in
     let v = allowed_ok (p u.0) fault u.0 m u.2 in

@@ -6,6 +6,7 @@ use Rattle.std.proofs.lemmas.Bool.{eqb-true}
 use Rattle.std.proofs.lemmas.Bool.Decides.{nat_tests}
 use Rattle.dl_codec.specs.Fields.{field}
 use Rattle.dl_codec.proofs.FieldLaws.{width_8, width_16, width_32}
+use Rattle.dl_record.specs.declared.limits.TheConstants.{ENTRY_MAX, PAYLOAD_MAX, MEMBERS_MAX}
 use Rattle.dl_record.specs.declared.kind.Kind.{Kind}
 use Rattle.dl_record.specs.declared.kind.Kind.TheVariants as kinds
 use Rattle.dl_record.specs.declared.cursor.Cursor.{Cursor}
@@ -62,7 +63,7 @@ pub record SetReads (bytes : List ℕ) (at : ℕ) (ps : List (List ℕ)) (rest :
   pub reads : members_count_at bytes (at + 2) ≡ Ok (length ps)
   pub behind : drop (at + 4) bytes ≡ flat_map member_bytes ps ++ rest
 
-set_reads : (bytes : List ℕ) (at : ℕ) (ps : List (List ℕ)) (rest : List ℕ) → 1 ≤ length ps → length ps ≤ 64 → drop at bytes ≡ set_bytes ps ++ rest → SetReads bytes at ps rest
+set_reads : (bytes : List ℕ) (at : ℕ) (ps : List (List ℕ)) (rest : List ℕ) → 1 ≤ length ps → length ps ≤ MEMBERS_MAX → drop at bytes ≡ set_bytes ps ++ rest → SetReads bytes at ps rest
 unfolding members_count_at set_bytes
 set_reads bytes at ps rest some most e =
     let members = flat_map member_bytes ps in
@@ -70,7 +71,7 @@ set_reads bytes at ps rest some most e =
     let fa = field_again w8 width_8 (omega arith) bytes at (at + 1) 0 (field w8 0 ++ (field w16 (length ps) ++ (members ++ rest))) refl (omega arith) parts in
     let fb = field_again w8 width_8 (omega arith) bytes (at + 1) (at + 2) 0 (field w16 (length ps) ++ (members ++ rest)) (omega arith) (omega arith) fa.behind in
     let fd = field_again w16 width_16 (omega arith) bytes (at + 2) (at + 4) (length ps) (members ++ rest) (omega arith) (omega arith) fb.behind in
-    let passes : (leb 1 (length ps) && leb (length ps) 64) ≡ true = grind (arith, nat_tests) in
+    let passes : (leb 1 (length ps) && leb (length ps) MEMBERS_MAX) ≡ true = grind (arith, nat_tests) in
     record { reads = rw (fd.reads, passes) refl; behind = fd.behind }
 
 -- ---- stored records
@@ -81,7 +82,7 @@ NoneBehind (Plain position txid payload) rows = Unit {0}
 NoneBehind (Control position txid) rows = rows ≡ []
 NoneBehind (Set position txid payloads) rows = Unit {0}
 
-kind_walk_again : (r : Stored) (slot : ℕ) (bytes : List ℕ) (at end : ℕ) (others : ℕ → List RowOf) (rest : List ℕ) → IsMembers r → length (payload_bytes r) ≤ 1040384 → end ≡ at + length (payload_bytes r)
+kind_walk_again : (r : Stored) (slot : ℕ) (bytes : List ℕ) (at end : ℕ) (others : ℕ → List RowOf) (rest : List ℕ) → IsMembers r → length (payload_bytes r) ≤ PAYLOAD_MAX → end ≡ at + length (payload_bytes r)
     → drop at bytes ≡ payload_bytes r ++ rest → NoneBehind r (others (slot + rows_in r)) → kind_walk (kind_in r) slot (txid_of r) bytes at end others ≡ numbered slot (txid_of r) (payloads_of r) ++ others (slot + rows_in r)
 kind_walk_again (Plain position txid payload) slot bytes at end others rest members short place e none =
     let p = part_again bytes at end payload rest place e in
@@ -128,9 +129,9 @@ records_walk_again (r ∷ rs) alone before slot bytes at are one e =
 pub record EntryWalk (bytes : List ℕ) (parts : List Stored) : Type 0 where
   pub count : field_at w16 bytes 2 ≡ Ok (length parts)
   pub rows : records_walk (length parts) 0 bytes 8 ≡ user_rows parts
-  pub most : length (user_rows parts) ≤ 1048576
+  pub most : length (user_rows parts) ≤ ENTRY_MAX
   pub room : 8 ≤ length bytes
-  pub size : length bytes ≤ 1048576
+  pub size : length bytes ≤ ENTRY_MAX
 
 pub entry_walk : (bytes : List ℕ) (parts : List Stored) → IsEntry parts → bytes ≡ entry_bytes parts → EntryWalk bytes parts
 entry_walk bytes parts is spelt =
@@ -140,7 +141,7 @@ entry_walk bytes parts is spelt =
     let len : length bytes ≡ 8 + size = ap length spelt ∙ length-entry_bytes parts in
     let e : bytes ≡ field w8 1 ++ (field w8 0 ++ (field w16 count ++ (field w32 size ++ body))) = spelt ∙ header_bytes-append count size body in
     let most = count_fits parts is in
-    let small : length bytes ≤ 1048576 = subst (λ (l : List ℕ). length l ≤ 1048576) (sym spelt) is.size in
+    let small : length bytes ≤ ENTRY_MAX = subst (λ (l : List ℕ). length l ≤ ENTRY_MAX) (sym spelt) is.size in
     let pa = field_again w8 width_8 (omega arith) bytes 0 1 1 (field w8 0 ++ (field w16 count ++ (field w32 size ++ body))) refl (omega arith) e in
     let pb = field_again w8 width_8 (omega arith) bytes 1 2 0 (field w16 count ++ (field w32 size ++ body)) refl (omega arith) pa.behind in
     let pd = field_again w16 width_16 (omega arith) bytes 2 4 count (field w32 size ++ body) refl (omega arith) pb.behind in

@@ -3,6 +3,8 @@ use Rattle.std.specs.Prelude.{◌≡◌, ℕ, ◌+◌, ◌≤◌, ◌<◌, ◌^�
 use Rattle.std.specs.List.{flat_map}
 use Rattle.std.specs.Int.{w8, w16, w32, w64}
 use Rattle.dl_codec.specs.Fields.{field}
+use Rattle.dl_types.specs.declared.txid.TheConstants.TxId.{MAX}
+use Rattle.dl_record.specs.declared.limits.TheConstants.{ENTRY_MAX, PAYLOAD_MAX, MEMBERS_MAX}
 use Rattle.dl_record.specs.declared.stored.Stored.{Stored}
 use Rattle.dl_record.specs.declared.stored.Stored.TheVariants.{Plain, Control, Set}
 use Rattle.dl_record.specs.Stored.{position_of, txid_of, rows_in}
@@ -44,17 +46,17 @@ header_bytes count size = field w8 1 ++ (field w8 0 ++ (field w16 count ++ field
 abbrev pub entry_bytes : List Stored → List ℕ
 entry_bytes parts = header_bytes (length parts) (length (flat_map record_bytes parts)) ++ flat_map record_bytes parts
 
--- a record set has 1 to 64 members
+-- how many members a record set has
 abbrev pub IsMembers : Stored → Type 0
 IsMembers (Plain position txid payload) = Unit {0}
 IsMembers (Control position txid) = Unit {0}
-IsMembers (Set position txid payloads) = (1 ≤ length payloads) × (length payloads ≤ 64)
+IsMembers (Set position txid payloads) = (1 ≤ length payloads) × (length payloads ≤ MEMBERS_MAX)
 
--- A stored record by itself: its numbers fit their fields, and its payload has at most 1,040,384 bytes.
+-- A stored record by itself: its numbers fit their fields, and its payload is not too long.
 pub record IsRecord (r : Stored) : Type 0 where
   pub position : position_of r < 2 ^ 32
-  pub txid : txid_of r ≤ 9223372036854775807
-  pub payload : length (payload_bytes r) ≤ 1040384
+  pub txid : txid_of r ≤ MAX
+  pub payload : length (payload_bytes r) ≤ PAYLOAD_MAX
   pub members : IsMembers r
 
 -- only a record that is alone in its entry may be a control record
@@ -78,11 +80,11 @@ abbrev pub AreRecords : Bool → Option Stored → List Stored → Type 0
 AreRecords alone before [] = Unit {0}
 AreRecords alone before (r ∷ rs) = IsRecord r × (IsAllowed alone r × (Follows before r × AreRecords alone (Some r) rs))
 
--- The stored records of an entry: at least one, in order, and at most 1,048,576 bytes in all.
+-- The stored records of an entry: at least one, in order, and not too long in all.
 pub record IsEntry (parts : List Stored) : Type 0 where
   pub some : 0 < length parts
   pub records : AreRecords (length parts == 1) None parts
-  pub size : length (entry_bytes parts) ≤ 1048576
+  pub size : length (entry_bytes parts) ≤ ENTRY_MAX
 
 -- bytes that spell an entry
 abbrev pub IsEntryBytes : List ℕ → Type 0

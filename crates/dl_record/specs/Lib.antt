@@ -1,5 +1,6 @@
 pub mod Stored
 pub mod Grammar
+pub mod Flaws
 pub mod Reading
 pub mod UserRows
 pub mod Rows

@@ -1,6 +1,6 @@
 -- The user rows of an entry, and what a walk over its bytes has left of them.
 use Rattle.std.specs.Prelude.{ℕ, zero, suc, ◌+◌, None, Result, Ok, Err, List, [], ◌∷◌, ◌++◌, length, slice_range, true}
-use Rattle.dl_record.specs.declared.entry_fault.EntryFault.{EntryFault}
+use Rattle.dl_record.specs.declared.entry_flaw.EntryFlaw.{EntryFlaw}
 use Rattle.dl_record.specs.declared.kind.Kind.{Kind}
 use Rattle.dl_record.specs.declared.kind.Kind.TheVariants as kinds
 use Rattle.dl_record.specs.declared.stored.Stored.{Stored}
@@ -29,10 +29,10 @@ row_count parts = length (user_rows parts)
 
 -- ---- a walk
 
--- the rows that follow a reading, or none where it found a fault
-abbrev pub or_none : {A : Type 0} → Result A EntryFault → (A → List RowOf) → List RowOf
+-- the rows that follow a reading, or none where it found a flaw
+abbrev pub or_none : {A : Type 0} → Result A EntryFlaw → (A → List RowOf) → List RowOf
 or_none (Ok x) rows = rows x
-or_none (Err fault) rows = []
+or_none (Err flaw) rows = []
 
 -- the rows of so many members from a place on, and then the others
 unfoldable pub members_walk : ℕ → (slot txid : ℕ) → List ℕ → ℕ → List RowOf → List RowOf

@@ -1,5 +1,6 @@
 -- What a walk has left, by where it stands.
 use Rattle.std.specs.Prelude.{ℕ, ◌+◌, ◌≤◌, List, length}
+use Rattle.dl_record.specs.declared.limits.TheConstants.{ENTRY_MAX}
 use Rattle.dl_record.specs.declared.cursor.Cursor.{Cursor}
 use Rattle.dl_record.specs.UserRows.{RowOf}
 use Rattle.dl_record.specs.Rows.{members_walk, records_walk}
@@ -10,6 +11,6 @@ rows_left bytes c = members_walk c.members c.slot c.txid bytes c.member_at (reco
 
 -- A walk stands within its bytes, and no slot passes the length of the longest entry.
 pub record IsWalk (bytes : List ℕ) (c : Cursor) : Type 0 where
-  pub size : length bytes ≤ 1048576
+  pub size : length bytes ≤ ENTRY_MAX
   pub within : c.at ≤ length bytes
-  pub slots : c.slot + length (rows_left bytes c) ≤ 1048576
+  pub slots : c.slot + length (rows_left bytes c) ≤ ENTRY_MAX

@@ -7,6 +7,7 @@ ghost use Rattle.dl_record.specs.Building.{MayFollow};
 
 use crate::encode::{HEADER, close_entry, put_payload, put_set};
 use crate::entry_bytes::EntryBytes;
+use crate::limits::{ENTRY_MAX, MEMBERS_MAX, PAYLOAD_MAX};
 use bytes::Bytes;
 use dl_types::memory::NoMemory;
 use dl_types::payload::Payload;
@@ -47,7 +48,7 @@ fn add_plain(
     txid: TxId,
     payload: &[u8],
 ) -> Result<(), NoMemory>
-    requires { length payload.now ≤ 1040384 }
+    requires { length payload.now ≤ PAYLOAD_MAX }
     ensures ok { OnOk result (out.new.items ≡ out.old.items ++ fields_and_payload position 0 txid payload.now) }
     ensures err { OnErr result (out.new.items ≡ out.old.items) }
     ensures bytes { IsBytes out.old.items }
@@ -70,8 +71,8 @@ fn add_set(
     txid: TxId,
     payloads: &[Payload],
 ) -> Result<(), NoMemory>
-    requires members { length payloads.now ≤ 64 }
-    requires size { length (set_bytes payloads.now) ≤ 1040384 }
+    requires members { length payloads.now ≤ MEMBERS_MAX }
+    requires size { length (set_bytes payloads.now) ≤ PAYLOAD_MAX }
     ensures ok { OnOk result (out.new.items ≡ out.old.items ++ fields_and_payload position 4 txid (set_bytes payloads.now)) }
     ensures err { OnErr result (out.new.items ≡ out.old.items) }
     ensures bytes { IsBytes out.old.items }
@@ -97,7 +98,7 @@ fn make_room(alloc: Global) -> Result<Vec<u8>, NoMemory>
 /// Takes the entry out, and leaves room for the next one's header. Where memory runs out the stored records stay.
 fn take_entry(alloc: Global, out: &mut Vec<u8>, count: u16) -> Result<EntryBytes, NoMemory>
     requires room { 8 ≤ length out.old.items }
-    requires size { length out.old.items ≤ 1048576 }
+    requires size { length out.old.items ≤ ENTRY_MAX }
     ensures entry { IfOk result (λ e. e ≡ header_bytes count (length out.old.items - 8) ++ drop 8 out.old.items) }
     ensures empty { OnOk result (length out.new.items ≡ 8) }
     ensures len { OnErr result (length out.new.items ≡ length out.old.items) }
@@ -115,6 +116,18 @@ fn take_entry(alloc: Global, out: &mut Vec<u8>, count: u16) -> Result<EntryBytes
     }
 }
 
+/// A copy of the entry, whose header is written there alone.
+fn copy_entry(alloc: Global, out: &[u8], count: u16) -> Result<EntryBytes, NoMemory>
+    requires room { 8 ≤ length out.now }
+    requires size { length out.now ≤ ENTRY_MAX }
+    ensures entry { IfOk result (λ e. e ≡ header_bytes count (length out.now - 8) ++ drop 8 out.now) }
+    ensures bytes { IsBytes out.now }
+{
+    let mut copy = Vec::from_slice(alloc, out)?;
+    close_entry(&mut copy, count);
+    EntryBytes::from_vec(copy)
+}
+
 impl EntryBuilder {
     /// A builder with no record.
     pub fn new(alloc: Global) -> Result<EntryBuilder, NoMemory>
@@ -129,11 +142,11 @@ impl EntryBuilder {
         })
     }
 
-    /// Whether a stored record whose payload has so many bytes still fits the 1,048,576 bytes of an entry.
+    /// Whether a stored record whose payload has so many bytes still fits the entry.
     pub fn fits(&self, size: u32) -> bool
-        ensures { IsTrue result ↔ (length (entry_bytes self.now) + 20 + size ≤ 1048576) }
+        ensures { IsTrue result ↔ (length (entry_bytes self.now) + 20 + size ≤ ENTRY_MAX) }
     {
-        self.bytes.len() + 20 + size as usize <= 1_048_576
+        self.bytes.len() + 20 + size as usize <= ENTRY_MAX
     }
 
     /// How many user rows were pushed.
@@ -165,6 +178,26 @@ impl EntryBuilder {
         self.count += 1;
         self.rows += payloads.len() as u32;
         Ok(())
+    }
+
+    /// The entry of the records that were pushed. The builder stays as it is, so that a writer that runs out of memory on
+    /// the way is as before; `clear` empties it.
+    pub fn entry(&self) -> Result<EntryBytes, NoMemory>
+        requires { 0 < row_count self.now }
+        ensures bytes { IfOk result (λ entry. entry ≡ entry_bytes self.now) }
+        ensures entry { IsEntry self.now }
+    {
+        let entry = copy_entry(self.alloc, &self.bytes, self.count)?;
+        Ok(entry)
+    }
+
+    /// Drops the records that were pushed. It takes no memory.
+    pub fn clear(&mut self)
+        ensures { self.new ≡ [] }
+    {
+        self.bytes.truncate(HEADER);
+        self.count = 0;
+        self.rows = 0;
     }
 
     /// The entry of the records that were pushed, after which the builder has none. Where memory runs out it is as before.

@@ -1,56 +1,18 @@
-ghost use Rattle.std.specs.Prelude.{◌≡◌, ◌+◌, ◌≤◌, ◌<◌, length, take, IfOk, IfErr, List, ℕ, None, ◌==◌};
-ghost use Rattle.std.specs.Option.{option_copied};
-ghost use Rattle.dl_record.specs.Reading.{Gives, zero_at, members_count_at, member_end_at, members_at, set_at, content_at, record_at, records_at, entry_at, Refuses};
-ghost use Rattle.std.specs.Prelude.{Ok};
+ghost use Rattle.std.specs.Prelude.{◌≡◌, ◌+◌, ◌≤◌, ◌<◌, length, take, IfOk, IfErr, List, ℕ, None, Ok, ◌==◌};
+ghost use Rattle.dl_record.specs.Reading.{Gives, members_at, set_at, content_at, record_at, records_at, entry_at, behind, Refuses};
 ghost use Rattle.dl_record.specs.declared.stored.Stored.{Stored};
 ghost use Rattle.dl_record.specs.Grammar.{IsEntry, entry_bytes};
 
 use crate::entry_fault::EntryFault;
-use crate::fields::{end_of, u8_at, u16_at, u32_at};
-use crate::head::{codec_of, head_of, header_of};
-use crate::kind::{Head, Kind};
+use crate::head::{head_of, header_of};
+use crate::kind::{Behind, Head, Kind};
+use crate::limits::ENTRY_MAX;
 use crate::payloads::Payloads;
 use crate::records::Records;
+use crate::sets::{member_end_of, set_count_of};
 use crate::stored::Stored;
 use dl_types::payload::Payload;
 use std::alloc::Global;
-
-#[tactic(auto, unfolding(crate::specs::Reading::zero_at))]
-fn zero_of(bytes: &[u8], at: usize) -> Result<u8, EntryFault>
-    ensures exact { zero_at bytes.now at ≡ result }
-    ensures room { IfOk result (λ n. at + 1 ≤ length bytes.now) }
-{
-    let zero = u8_at(bytes, at)?;
-    if zero == 0 {
-        Ok(zero)
-    } else {
-        Err(EntryFault::BadFlags { at })
-    }
-}
-
-#[tactic(auto, unfolding(crate::specs::Reading::members_count_at))]
-pub fn members_count_of(bytes: &[u8], at: usize) -> Result<u16, EntryFault>
-    ensures exact { members_count_at bytes.now at ≡ result }
-    ensures some { IfOk result (λ n. 1 ≤ n) }
-    ensures room { IfOk result (λ n. at + 2 ≤ length bytes.now) }
-{
-    let count = u16_at(bytes, at)?;
-    if 1 <= count && count <= 64 {
-        Ok(count)
-    } else {
-        Err(EntryFault::BadCount { at })
-    }
-}
-
-/// Where the member at a place ends.
-#[tactic(auto, unfolding(crate::specs::Reading::member_end_at))]
-pub fn member_end_of(bytes: &[u8], at: usize) -> Result<usize, EntryFault>
-    ensures exact { member_end_at bytes.now at ≡ result }
-    ensures room { IfOk result (λ end. (at + 4 ≤ end) × (end ≤ length bytes.now)) }
-{
-    let size = u32_at(bytes, at)?;
-    end_of(bytes, at + 4, size as usize)
-}
 
 /// The payloads of so many members, which end with the bytes.
 fn members_of(
@@ -81,9 +43,7 @@ fn members_of(
 fn set_of(alloc: Global, bytes: &[u8], at: usize) -> Result<Payloads, EntryFault>
     ensures { Gives (λ payloads. payloads) result (set_at bytes.now at) }
 {
-    let _codec = codec_of(bytes, at)?;
-    let _zero = zero_of(bytes, at + 1)?;
-    let count = members_count_of(bytes, at + 2)?;
+    let count = set_count_of(bytes, at)?;
     let payloads = members_of(alloc, count, bytes, at + 4)?;
     Ok(Payloads::from_vec(payloads))
 }
@@ -122,17 +82,27 @@ fn content_of(alloc: Global, head: &Head, bytes: &[u8], at: usize) -> Result<Sto
 fn record_of(
     alloc: Global,
     alone: bool,
-    before: Option<&Stored>,
+    before: Option<Behind>,
     bytes: &[u8],
     at: usize,
 ) -> Result<(Stored, usize), EntryFault>
     requires { at ≤ length bytes.now }
-    ensures exact { Gives (λ x. (x.0, x.1)) result (record_at alone (option_copied before.entry) bytes.now at) }
+    ensures exact { Gives (λ x. (x.0, x.1)) result (record_at alone before bytes.now at) }
     ensures room { IfOk result (λ x. x.1 ≤ length bytes.now) }
 {
     let head = head_of(alone, before, bytes, at)?;
     let stored = content_of(alloc, &head, bytes, at + 20)?;
     Ok((stored, head.end))
+}
+
+/// What a stored record asks of the one behind it.
+fn behind(stored: &Stored) -> Behind
+    ensures { result ≡ behind stored.now }
+{
+    Behind {
+        position: u64::from(stored.position()) + stored.rows() as u64,
+        txid: stored.txid().number(),
+    }
 }
 
 /// So many stored records behind the header, which end with the bytes.
@@ -141,9 +111,11 @@ fn records_of(alloc: Global, count: u16, bytes: &[u8]) -> Result<Vec<Stored>, En
     ensures { Gives (λ records. records.items) result (records_at count (count == 1) None bytes.now 8) }
 {
     let mut records = Vec::new(alloc);
+    let mut before = None;
     let mut at = 8;
     for _ in 0..count {
-        let (stored, end) = record_of(alloc, count == 1, records.last(), bytes, at)?;
+        let (stored, end) = record_of(alloc, count == 1, before, bytes, at)?;
+        before = Some(behind(&stored));
         records.push(stored)?;
         at = end;
     }
@@ -154,12 +126,12 @@ fn records_of(alloc: Global, count: u16, bytes: &[u8]) -> Result<Vec<Stored>, En
     }
 }
 
-/// The stored records of an entry, or its first fault.
+/// The stored records of an entry, or its first flaw.
 #[tactic(auto, unfolding(crate::specs::Reading::entry_at))]
 fn entry_of(alloc: Global, bytes: &[u8]) -> Result<Records, EntryFault>
     ensures { Gives (λ records. records) result (entry_at bytes.now) }
 {
-    if bytes.len() > 1_048_576 {
+    if bytes.len() > ENTRY_MAX {
         return Err(EntryFault::TooLong { at: 0 });
     }
     let count = header_of(bytes)?;
@@ -167,14 +139,14 @@ fn entry_of(alloc: Global, bytes: &[u8]) -> Result<Records, EntryFault>
     Ok(Records::from_vec(records))
 }
 
-/// The stored records of an entry. A fault is the first one in the order of the bytes, at the first byte of its field;
-/// no bytes with a fault are an entry.
+/// The stored records of an entry. The fault is the first flaw in the order of the bytes, at the first byte of its field;
+/// no bytes with a flaw are an entry.
 pub fn decode_entry(alloc: Global, bytes: &[u8]) -> Result<Records, EntryFault>
     // What is read is an entry, and the bytes are its one spelling.
     ensures found { IfOk result (λ parts. IsEntry parts × (bytes.now ≡ entry_bytes parts)) }
     // What spells an entry is read, unless memory runs out.
     ensures only { (parts : List Stored) → IsEntry parts → bytes.now ≡ entry_bytes parts → Gives (λ x. x) result (Ok parts) }
-    // A fault is the first in the order of the bytes, and then they are no entry.
+    // The fault names the first flaw in the order of the bytes, and then they are no entry.
     ensures refused { IfErr result (Refuses bytes.now) }
 {
     entry_of(alloc, bytes)

@@ -8,6 +8,7 @@ ghost use Rattle.dl_record.specs.declared.stored.Stored.TheVariants.{Control};
 ghost use Rattle.dl_record.specs.Grammar.{member_bytes, set_bytes, fields_and_payload, header_bytes, record_bytes, entry_bytes, IsRecord, IsEntry};
 
 use crate::entry_bytes::EntryBytes;
+use crate::limits::{ENTRY_MAX, MEMBERS_MAX, PAYLOAD_MAX};
 use crate::stored::Stored;
 use byteorder::{BigEndian, ByteOrder};
 use dl_codec::write::{put_u8, put_u16, put_u32, put_u64};
@@ -48,7 +49,7 @@ pub(crate) fn put_payload(
     txid: TxId,
     payload: &[u8],
 ) -> Result<(), NoMemory>
-    requires { length payload.now ≤ 1040384 }
+    requires { length payload.now ≤ PAYLOAD_MAX }
     ensures ok { OnOk result (out.new.items ≡ out.old.items ++ fields_and_payload position flags txid payload.now) }
     ensures err { OnErr result (take (length out.old.items) out.new.items ≡ out.old.items) }
 {
@@ -57,14 +58,14 @@ pub(crate) fn put_payload(
     Ok(())
 }
 
-/// How many bytes the payload of a record set of these members has, or none where they are more than the 1,040,384 that
-/// a stored record may hold.
+/// How many bytes the payload of a record set of these members has, or none where they are more than a stored record may
+/// hold.
 pub fn set_size(payloads: &[Payload]) -> Option<u32>
-    ensures { SomeIff result (length (set_bytes payloads.now) ≤ 1040384) (length (set_bytes payloads.now)) }
+    ensures { SomeIff result (length (set_bytes payloads.now) ≤ PAYLOAD_MAX) (length (set_bytes payloads.now)) }
 {
     let mut size = 4;
     for payload in payloads {
-        if payload.len().saturating_add(4) > (1_040_384 - size) as usize {
+        if payload.len().saturating_add(4) > (PAYLOAD_MAX - size) as usize {
             return None;
         }
         size += payload.len() as u32 + 4;
@@ -74,7 +75,7 @@ pub fn set_size(payloads: &[Payload]) -> Option<u32>
 
 /// Adds the members of a record set.
 fn put_members(alloc: Global, out: &mut Vec<u8>, payloads: &[Payload]) -> Result<(), NoMemory>
-    requires { length (flat_map member_bytes payloads.now) ≤ 1040384 }
+    requires { length (flat_map member_bytes payloads.now) ≤ PAYLOAD_MAX }
     ensures ok { OnOk result (out.new.items ≡ out.old.items ++ flat_map member_bytes payloads.now) }
     ensures err { OnErr result (take (length out.old.items) out.new.items ≡ out.old.items) }
 {
@@ -100,7 +101,7 @@ fn write_header(out: &mut [u8], count: u16, size: u32)
 /// Writes the header of an entry of so many stored records into the room that is kept for it.
 pub(crate) fn close_entry(out: &mut Vec<u8>, count: u16)
     requires room { 8 ≤ length out.old.items }
-    requires size { length out.old.items ≤ 1048576 }
+    requires size { length out.old.items ≤ ENTRY_MAX }
     ensures bytes { out.new.items ≡ header_bytes count (length out.old.items - 8) ++ drop 8 out.old.items }
     ensures len { length out.new.items ≡ length out.old.items }
 {
@@ -117,8 +118,8 @@ pub(crate) fn put_set(
     txid: TxId,
     payloads: &[Payload],
 ) -> Result<(), NoMemory>
-    requires members { length payloads.now ≤ 64 }
-    requires size { length (set_bytes payloads.now) ≤ 1040384 }
+    requires members { length payloads.now ≤ MEMBERS_MAX }
+    requires size { length (set_bytes payloads.now) ≤ PAYLOAD_MAX }
     ensures ok { OnOk result (out.new.items ≡ out.old.items ++ fields_and_payload position 4 txid (set_bytes payloads.now)) }
     ensures err { OnErr result (take (length out.old.items) out.new.items ≡ out.old.items) }
 {

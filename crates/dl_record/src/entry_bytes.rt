@@ -66,6 +66,22 @@ impl EntryBytes {
         self.bytes.as_slice()
     }
 
+    /// The bytes, without a copy.
+    pub fn into_bytes(self) -> Bytes
+        ensures { result ≡ self }
+    {
+        let EntryBytes { bytes } = self;
+        bytes
+    }
+
+    /// Another owner of the bytes, without a copy.
+    pub fn to_bytes(&self) -> Result<Bytes, NoMemory>
+        ensures { IfOk result (λ b. b ≡ self.now) }
+    {
+        let bytes = self.bytes.clone()?;
+        Ok(bytes)
+    }
+
     /// How many bytes there are.
     pub fn len(&self) -> usize
         ensures { result ≡ length self.now }

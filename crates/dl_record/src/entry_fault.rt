@@ -1,12 +1,13 @@
-ghost use Rattle.std.specs.Prelude.{◌≡◌};
-ghost use Rattle.dl_record.specs.declared.entry_fault.EntryFault.TheVariants.{NoMemory, Short};
+ghost use Rattle.std.specs.Prelude.{◌≡◌, Some};
+ghost use Rattle.dl_record.specs.declared.entry_fault.EntryFault.TheVariants.{NoMemory};
+ghost use Rattle.dl_record.specs.Flaws.{flaw_of};
 
-use dl_codec::short;
+use crate::entry_flaw::EntryFlaw;
 use std::alloc::{AllocError, AllocFailed};
 use thiserror::Error;
 
-/// Why bytes are no entry: the first fault in the order of the bytes, with the place, from 0, of the first byte of its
-/// field.
+/// Why an entry was not read: want of memory, or the first flaw in the order of the bytes, with the place, from 0, of the
+/// first byte of its field.
 #[derive(Clone, Copy, Debug, PartialEq, Eq, Error)]
 pub enum EntryFault {
     /// Memory ran out.
@@ -21,7 +22,7 @@ pub enum EntryFault {
     /// The field is cut short, or fewer bytes follow than it says.
     #[error("cut short at {at}")]
     Short { at: usize },
-    /// The entry is longer than 1,048,576 bytes, or the length of a record is above 1,040,384.
+    /// The entry is longer than an entry may be, or the length of a record is above that of a payload.
     #[error("too long at {at}")]
     TooLong { at: usize },
     /// A count of records or members, a position, or the length of a control record that does not fit.
@@ -59,10 +60,18 @@ impl From<dl_types::memory::NoMemory> for EntryFault {
     }
 }
 
-impl From<short::Short> for EntryFault {
-    ghost from_gives = { λ short fault. fault ≡ Short short.at };
+impl From<EntryFlaw> for EntryFault {
+    ghost from_gives = { λ flaw fault. flaw_of fault ≡ Some flaw };
 
-    fn from(short: short::Short) -> EntryFault {
-        EntryFault::Short { at: short.at }
+    fn from(flaw: EntryFlaw) -> EntryFault {
+        match flaw {
+            EntryFlaw::BadFlags { at } => EntryFault::BadFlags { at },
+            EntryFlaw::Compressed { at } => EntryFault::Compressed { at },
+            EntryFlaw::Short { at } => EntryFault::Short { at },
+            EntryFlaw::TooLong { at } => EntryFault::TooLong { at },
+            EntryFlaw::BadCount { at } => EntryFault::BadCount { at },
+            EntryFlaw::TxidBack { at } => EntryFault::TxidBack { at },
+            EntryFlaw::Long { at } => EntryFault::Long { at },
+        }
     }
 }

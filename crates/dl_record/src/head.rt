@@ -1,28 +1,28 @@
 ghost use Rattle.std.specs.Prelude.{◌≡◌, ◌+◌, ◌≤◌, length, IfOk, List, ℕ};
-ghost use Rattle.std.specs.Option.{option_copied};
 ghost use Rattle.dl_record.specs.Reading.{version_at, codec_at, count_at, size_at, header_at, position_at, kind_at, txid_at, length_at, head_at, may_stand, may_bear, may_hold};
 
-use crate::entry_fault::EntryFault;
+use crate::entry_flaw::EntryFlaw;
 use crate::fields::{end_of, u8_at, u16_at, u32_at, u64_at};
-use crate::kind::{Head, Kind};
-use crate::stored::Stored;
+use crate::kind::{Behind, Head, Kind};
+use crate::limits::{ENTRY_MAX, PAYLOAD_MAX};
 use dl_types::txid::TxId;
 
+/// The version at a place, which is 1.
 #[tactic(auto, unfolding(crate::specs::Reading::version_at))]
-fn version_of(bytes: &[u8], at: usize) -> Result<u8, EntryFault>
+fn version_of(bytes: &[u8], at: usize) -> Result<u8, EntryFlaw>
     ensures exact { version_at bytes.now at ≡ result }
 {
     let version = u8_at(bytes, at)?;
     if version == 1 {
         Ok(version)
     } else {
-        Err(EntryFault::BadFlags { at })
+        Err(EntryFlaw::BadFlags { at })
     }
 }
 
 /// The codec at a place, which is 0: nothing here is compressed.
 #[tactic(auto, unfolding(crate::specs::Reading::codec_at))]
-pub fn codec_of(bytes: &[u8], at: usize) -> Result<u8, EntryFault>
+pub fn codec_of(bytes: &[u8], at: usize) -> Result<u8, EntryFlaw>
     ensures exact { codec_at bytes.now at ≡ result }
     ensures room { IfOk result (λ n. at + 1 ≤ length bytes.now) }
 {
@@ -30,43 +30,45 @@ pub fn codec_of(bytes: &[u8], at: usize) -> Result<u8, EntryFault>
     if codec == 0 {
         Ok(codec)
     } else {
-        Err(EntryFault::Compressed { at })
+        Err(EntryFlaw::Compressed { at })
     }
 }
 
+/// The number of stored records that stands at a place, which is not 0.
 #[tactic(auto, unfolding(crate::specs::Reading::count_at))]
-fn count_of(bytes: &[u8], at: usize) -> Result<u16, EntryFault>
+fn count_of(bytes: &[u8], at: usize) -> Result<u16, EntryFlaw>
     ensures exact { count_at bytes.now at ≡ result }
 {
     let count = u16_at(bytes, at)?;
     if count == 0 {
-        Err(EntryFault::BadCount { at })
+        Err(EntryFlaw::BadCount { at })
     } else {
         Ok(count)
     }
 }
 
+/// The length that stands at a place, which is that of the bytes that follow.
 #[tactic(auto, unfolding(crate::specs::Reading::size_at))]
-fn size_of(bytes: &[u8], at: usize) -> Result<u32, EntryFault>
-    requires { length bytes.now ≤ 1048576 }
+fn size_of(bytes: &[u8], at: usize) -> Result<u32, EntryFlaw>
+    requires { length bytes.now ≤ ENTRY_MAX }
     ensures exact { size_at bytes.now at ≡ result }
     ensures room { IfOk result (λ n. at + 4 ≤ length bytes.now) }
 {
     let size = u32_at(bytes, at)?;
     let end = at + 4 + size as usize;
     if bytes.len() < end {
-        Err(EntryFault::Short { at })
+        Err(EntryFlaw::Short { at })
     } else if bytes.len() <= end {
         Ok(size)
     } else {
-        Err(EntryFault::Long { at: end })
+        Err(EntryFlaw::Long { at: end })
     }
 }
 
 /// How many stored records the header of an entry counts.
 #[tactic(auto, unfolding(crate::specs::Reading::header_at))]
-pub fn header_of(bytes: &[u8]) -> Result<u16, EntryFault>
-    requires { length bytes.now ≤ 1048576 }
+pub fn header_of(bytes: &[u8]) -> Result<u16, EntryFlaw>
+    requires { length bytes.now ≤ ENTRY_MAX }
     ensures exact { header_at bytes.now ≡ result }
     ensures room { IfOk result (λ n. 8 ≤ length bytes.now) }
 {
@@ -77,27 +79,27 @@ pub fn header_of(bytes: &[u8]) -> Result<u16, EntryFault>
     Ok(count)
 }
 
-fn may_stand(before: Option<&Stored>, position: u32) -> bool
-    ensures { result ≡ may_stand (option_copied before.entry) position }
+/// Whether a record may have this position behind that one.
+fn may_stand(before: Option<Behind>, position: u32) -> bool
+    ensures { result ≡ may_stand before position }
 {
     match before {
         None => true,
-        Some(stored) => {
-            let first = stored.position();
-            first <= position && (position - first) as usize == stored.rows()
-        }
+        Some(before) => u64::from(position) == before.position,
     }
 }
 
-fn may_bear(before: Option<&Stored>, txid: u64) -> bool
-    ensures { result ≡ may_bear (option_copied before.entry) txid }
+/// Whether a record may have this transaction id behind that one.
+fn may_bear(before: Option<Behind>, txid: u64) -> bool
+    ensures { result ≡ may_bear before txid }
 {
     match before {
         None => true,
-        Some(stored) => stored.txid().number() <= txid,
+        Some(before) => before.txid <= txid,
     }
 }
 
+/// Whether a record of this kind may have a payload of so many bytes.
 fn may_hold(kind: Kind, size: u32) -> bool
     ensures { result ≡ may_hold kind size }
 {
@@ -108,21 +110,23 @@ fn may_hold(kind: Kind, size: u32) -> bool
     }
 }
 
+/// The position at a place.
 #[tactic(auto, unfolding(crate::specs::Reading::position_at))]
-fn position_of(before: Option<&Stored>, bytes: &[u8], at: usize) -> Result<u32, EntryFault>
-    ensures exact { position_at (option_copied before.entry) bytes.now at ≡ result }
+fn position_of(before: Option<Behind>, bytes: &[u8], at: usize) -> Result<u32, EntryFlaw>
+    ensures exact { position_at before bytes.now at ≡ result }
     ensures room { IfOk result (λ n. at + 4 ≤ length bytes.now) }
 {
     let position = u32_at(bytes, at)?;
     if may_stand(before, position) {
         Ok(position)
     } else {
-        Err(EntryFault::BadCount { at })
+        Err(EntryFlaw::BadCount { at })
     }
 }
 
+/// The kind that the flags at a place name.
 #[tactic(auto, unfolding(crate::specs::Reading::kind_at))]
-fn kind_of(alone: bool, bytes: &[u8], at: usize) -> Result<Kind, EntryFault>
+fn kind_of(alone: bool, bytes: &[u8], at: usize) -> Result<Kind, EntryFlaw>
     ensures exact { kind_at alone bytes.now at ≡ result }
     ensures room { IfOk result (λ n. at + 4 ≤ length bytes.now) }
 {
@@ -134,37 +138,39 @@ fn kind_of(alone: bool, bytes: &[u8], at: usize) -> Result<Kind, EntryFault>
     } else if flags == 1 && alone {
         Ok(Kind::Control)
     } else {
-        Err(EntryFault::BadFlags { at })
+        Err(EntryFlaw::BadFlags { at })
     }
 }
 
+/// The transaction id at a place.
 #[tactic(auto, unfolding(crate::specs::Reading::txid_at))]
-fn txid_of(before: Option<&Stored>, bytes: &[u8], at: usize) -> Result<TxId, EntryFault>
-    ensures exact { txid_at (option_copied before.entry) bytes.now at ≡ result }
+fn txid_of(before: Option<Behind>, bytes: &[u8], at: usize) -> Result<TxId, EntryFlaw>
+    ensures exact { txid_at before bytes.now at ≡ result }
     ensures room { IfOk result (λ n. at + 8 ≤ length bytes.now) }
 {
     let txid = u64_at(bytes, at)?;
     if txid > TxId::MAX {
-        Err(EntryFault::BadFlags { at })
+        Err(EntryFlaw::BadFlags { at })
     } else if may_bear(before, txid) {
         Ok(TxId::new(txid))
     } else {
-        Err(EntryFault::TxidBack { at })
+        Err(EntryFlaw::TxidBack { at })
     }
 }
 
+/// The length of a payload at a place.
 #[tactic(auto, unfolding(crate::specs::Reading::length_at))]
-fn length_of(kind: Kind, bytes: &[u8], at: usize) -> Result<u32, EntryFault>
+fn length_of(kind: Kind, bytes: &[u8], at: usize) -> Result<u32, EntryFlaw>
     ensures exact { length_at kind bytes.now at ≡ result }
     ensures room { IfOk result (λ n. at + 4 ≤ length bytes.now) }
 {
     let size = u32_at(bytes, at)?;
-    if size > 1_040_384 {
-        Err(EntryFault::TooLong { at })
+    if size > PAYLOAD_MAX {
+        Err(EntryFlaw::TooLong { at })
     } else if may_hold(kind, size) {
         Ok(size)
     } else {
-        Err(EntryFault::BadCount { at })
+        Err(EntryFlaw::BadCount { at })
     }
 }
 
@@ -172,12 +178,12 @@ fn length_of(kind: Kind, bytes: &[u8], at: usize) -> Result<u32, EntryFault>
 #[tactic(auto, unfolding(crate::specs::Reading::head_at))]
 pub fn head_of(
     alone: bool,
-    before: Option<&Stored>,
+    before: Option<Behind>,
     bytes: &[u8],
     at: usize,
-) -> Result<Head, EntryFault>
+) -> Result<Head, EntryFlaw>
     requires { at ≤ length bytes.now }
-    ensures exact { head_at alone (option_copied before.entry) bytes.now at ≡ result }
+    ensures exact { head_at alone before bytes.now at ≡ result }
     ensures room { IfOk result (λ head. (at + 20 ≤ head.end) × (head.end ≤ length bytes.now)) }
 {
     let position = position_of(before, bytes, at)?;

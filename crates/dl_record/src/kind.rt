@@ -16,3 +16,10 @@ pub struct Head {
     pub txid: TxId,
     pub end: usize,
 }
+
+/// What a stored record asks of the one behind it: to count on by its rows, and that the transaction id does not fall.
+#[derive(Clone, Copy, Debug, PartialEq, Eq)]
+pub struct Behind {
+    pub position: u64,
+    pub txid: u64,
+}

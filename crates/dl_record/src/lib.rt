@@ -2,17 +2,21 @@
 #![tactic(auto)]
 
 pub mod builder;
+pub mod check;
 mod cursor;
 pub mod decode;
 pub mod encode;
 pub mod entry_bytes;
 pub mod entry_fault;
+pub mod entry_flaw;
 mod fields;
 mod head;
 mod kind;
 pub mod law;
+pub mod limits;
 pub mod payloads;
 pub mod records;
+mod sets;
 pub mod stored;
 #[cfg(test)]
 mod tests;

@@ -19,7 +19,7 @@ pub enum Stored {
         position: u32,
         txid: TxId,
     },
-    /// A record set: 1 to 64 records of a user that share one transaction id.
+    /// A record set: one or more records of a user that share one transaction id.
     Set {
         position: u32,
         txid: TxId,
@@ -54,7 +54,8 @@ impl Stored {
 
     /// How many user rows the record holds.
     pub fn rows(&self) -> usize
-        ensures { result ≡ rows_in self.now }
+        ensures rows { result ≡ rows_in self.now }
+        ensures bound { result < 2 ^ 63 }
     {
         match self {
             Stored::Plain { .. } => 1,

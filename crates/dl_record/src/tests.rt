@@ -1,6 +1,7 @@
 mod spoilt;
 
 use crate::builder::EntryBuilder;
+use crate::check::check_entry;
 use crate::decode::decode_entry;
 use crate::encode::{control, encode_entry, set_size};
 use crate::entry_fault::EntryFault;
@@ -40,6 +41,7 @@ fn outcome(rt: &HostRuntime, bytes: &[u8]) -> (u8, usize) {
 #[test]
 fn reads_and_writes_the_first_entry(rt: HostRuntime) -> Result<(), Fail> {
     let alloc = rt.alloc();
+    assert!(rt; check_entry(&FIRST).is_ok());
     let records = decode_entry(alloc, &FIRST)?;
     match records.as_slice() {
         [
@@ -143,8 +145,12 @@ fn builds_and_walks(rt: HostRuntime) -> Result<(), Fail> {
     assert!(rt; builder.fits(1));
     builder.push(10, TxId::new(6), b"x")?;
     assert_eq!(rt; builder.rows(), 4);
+    let copy = builder.entry()?;
     let entry = builder.finish()?;
     assert_eq!(rt; entry.as_slice(), ENTRY.as_slice());
+    assert_eq!(rt; copy.to_bytes()?.as_slice(), ENTRY.as_slice());
+    assert_eq!(rt; copy.into_bytes().as_slice(), ENTRY.as_slice());
+    builder.clear();
     assert_eq!(rt; builder.rows(), 0);
     Ok(())
 }

@@ -9,10 +9,10 @@ ghost use Rattle.dl_record.specs.Walks.{rows_left, IsWalk};
 ghost use Rattle.dl_record.specs.RowViews.{row_view};
 
 use crate::cursor::Cursor;
-use crate::decode::{member_end_of, members_count_of};
 use crate::fields::u16_at;
 use crate::head::head_of;
 use crate::kind::Kind;
+use crate::sets::{member_end_of, members_count_of};
 use crate::user_row::UserRow;
 use dl_types::txid::TxId;
 use std::marker::Model;
