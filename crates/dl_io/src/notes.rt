@@ -47,7 +47,12 @@ fn write_number<K: Sink>(sink: &mut K, end: u8, value: u64) -> Result<(), WriteF
 
 /// Gives a text, and a number behind it.
 #[tactic(auto, using(crate::proofs::WriteLemmas::writes_then, crate::proofs::WriteLemmas::writes_stopped))]
-fn write_word_number<K: Sink>(sink: &mut K, text: &[u8], end: u8, value: u64) -> Result<(), WriteFailed>
+fn write_word_number<K: Sink>(
+    sink: &mut K,
+    text: &[u8],
+    end: u8,
+    value: u64,
+) -> Result<(), WriteFailed>
     ensures { Writes (K.held sink.old) (K.held sink.new) (K.finished sink.old) (K.finished sink.new)
         (K.write_faults sink.old) (K.write_faults sink.new) (word_number text.now end value) result }
 {
@@ -129,10 +134,8 @@ fn write_rest<K: Sink>(sink: &mut K, refusal: &Refusal) -> Result<(), WriteFaile
         Refusal::Busy { line } => write_number(sink, b'\n', u64::from(*line)),
         Refusal::BadName { at } => write_number(sink, b'\n', u64::from(*at)),
         Refusal::GaveUp { path } => write_bytes(sink, b'\n', path.as_slice()),
-        Refusal::NoStream
-        | Refusal::StreamExists
-        | Refusal::NoWriter
-        | Refusal::WindowFull => write_all(sink, b""),
+        Refusal::NoStream | Refusal::StreamExists | Refusal::NoWriter | Refusal::WindowFull =>
+            write_all(sink, b""),
     }
 }
 

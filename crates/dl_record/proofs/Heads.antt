@@ -7,7 +7,7 @@ use Rattle.std.proofs.lemmas.List.{length-drop}
 use Rattle.dl_codec.specs.Fields.{field, IsBytes}
 use Rattle.dl_codec.proofs.FieldLaws.{width_32, width_64}
 use Rattle.dl_record.specs.declared.limits.TheConstants.{PAYLOAD_MAX}
-use Rattle.dl_types.specs.declared.txid.TheConstants.TxId.{MAX}
+use Rattle.dl_types.specs.declared.txid.TheConstants.{MAX_TXID}
 use Rattle.dl_record.specs.declared.entry_flaw.EntryFlaw.{EntryFlaw}
 use Rattle.dl_record.specs.declared.entry_flaw.EntryFlaw.TheVariants.{BadFlags, TooLong, BadCount, TxidBack}
 use Rattle.dl_record.specs.declared.kind.Kind.{Kind}
@@ -34,7 +34,7 @@ pub record HeadStands (alone : Bool) (before : Option Behind) (bytes : List ℕ)
   pub position : head.position < 2 ^ 32
   pub follows : may_stand before head.position ≡ true
   pub fits : FitsKind alone head.kind
-  pub txid : head.txid ≤ MAX
+  pub txid : head.txid ≤ MAX_TXID
   pub bears : may_bear before head.txid ≡ true
   pub short : size ≤ PAYLOAD_MAX
   pub holds : may_hold head.kind size ≡ true
@@ -86,8 +86,8 @@ head_found alone before bytes at head fits e =
     let a' = checked_ok (field_at w32 bytes at) (may_stand before) (BadCount at) a.0 a.1 in
     let b' = bind_ok (field_at w32 bytes (at + 4)) (λ n. kind_of alone (at + 4) n) b.0 b.1 in
     let b'' = kind_found alone (at + 4) b'.0 b.0 b'.2 in
-    let d' = bind_ok (field_at w64 bytes (at + 8)) (λ n. cond (ltb MAX n) (Err (BadFlags (at + 8))) (allowed (may_bear before n) (TxidBack (at + 8)) n)) d.0 d.1 in
-    let d'' = chosen (ltb MAX d'.0) (BadFlags (at + 8)) (allowed (may_bear before d'.0) (TxidBack (at + 8)) d'.0) d.0 d'.2 in
+    let d' = bind_ok (field_at w64 bytes (at + 8)) (λ n. cond (ltb MAX_TXID n) (Err (BadFlags (at + 8))) (allowed (may_bear before n) (TxidBack (at + 8)) n)) d.0 d.1 in
+    let d'' = chosen (ltb MAX_TXID d'.0) (BadFlags (at + 8)) (allowed (may_bear before d'.0) (TxidBack (at + 8)) d'.0) d.0 d'.2 in
     let d3 = allowed_ok (may_bear before d'.0) (TxidBack (at + 8)) d'.0 d.0 d''.1 in
     let f' = bind_ok (field_at w32 bytes (at + 16)) (λ n. cond (ltb PAYLOAD_MAX n) (Err (TooLong (at + 16))) (allowed (may_hold b.0 n) (BadCount (at + 16)) n)) f.0 f.1 in
     let f'' = chosen (ltb PAYLOAD_MAX f'.0) (TooLong (at + 16)) (allowed (may_hold b.0 f'.0) (BadCount (at + 16)) f'.0) f.0 f'.2 in
@@ -101,7 +101,7 @@ head_found alone before bytes at head fits e =
       position = pa.fits;
       follows = a'.1;
       fits = b''.1;
-      txid = omega (arith, ltb-false MAX d'.0 d''.0, d3.1);
+      txid = omega (arith, ltb-false MAX_TXID d'.0 d''.0, d3.1);
       bears = ap (may_bear before) (sym d3.1) ∙ d3.0;
       short = omega (arith, ltb-false PAYLOAD_MAX f'.0 f''.0, f3.1);
       holds = ap (may_hold b.0) (sym f3.1) ∙ f3.0;
@@ -120,7 +120,7 @@ pub record HeadReads (alone : Bool) (before : Option Behind) (bytes : List ℕ) 
   pub room : head.end ≤ length bytes
 
 pub head_again : (alone : Bool) (before : Option Behind) (bytes : List ℕ) (at : ℕ) (position txid size : ℕ) (kind : Kind) (rest : List ℕ) → position < 2 ^ 32 → may_stand before position ≡ true → FitsKind alone kind
-    → txid ≤ MAX → may_bear before txid ≡ true → size ≤ PAYLOAD_MAX → may_hold kind size ≡ true → size ≤ length rest
+    → txid ≤ MAX_TXID → may_bear before txid ≡ true → size ≤ PAYLOAD_MAX → may_hold kind size ≡ true → size ≤ length rest
     → drop at bytes ≡ field w32 position ++ (field w32 (kind_flags kind) ++ (field w64 txid ++ (field w32 size ++ rest)))
     → HeadReads alone before bytes at (record { position = position; kind = kind; txid = txid; end = at + 20 + size }) rest
 unfolding head_at position_at kind_at txid_at length_at
@@ -133,7 +133,7 @@ head_again alone before bytes at position txid size kind rest position-fits stan
     let pf = field_again w32 width_32 (omega arith) bytes (at + 16) (at + 20) size rest (omega arith) (omega arith) pd.behind in
     let long : length bytes - (at + 20) ≡ length rest = sym (length-drop (at + 20) bytes) ∙ ap length pf.behind in
     let end : at + 20 + size ≤ length bytes = omega (arith, pf.room, long, room) in
-    let small : ltb MAX txid ≡ false = le-ltb MAX txid txid-fits in
+    let small : ltb MAX_TXID txid ≡ false = le-ltb MAX_TXID txid txid-fits in
     let short : ltb PAYLOAD_MAX size ≡ false = le-ltb PAYLOAD_MAX size size-fits in
     record {
       reads = rw (pa.reads, stands, pb.reads, kind_again alone (at + 4) kind fits, pd.reads, small, bears, pf.reads, short, holds, end_again bytes (at + 20) size end) refl;

@@ -8,7 +8,7 @@ use Rattle.std.proofs.lemmas.List.{drop_all, length-drop}
 use Rattle.std.proofs.lemmas.Slice.{between_is}
 use Rattle.dl_codec.specs.Fields.{field, IsBytes}
 use Rattle.dl_record.specs.declared.limits.TheConstants.{PAYLOAD_MAX}
-use Rattle.dl_types.specs.declared.txid.TheConstants.TxId.{MAX}
+use Rattle.dl_types.specs.declared.txid.TheConstants.{MAX_TXID}
 use Rattle.dl_record.specs.declared.kind.Kind.{Kind}
 use Rattle.dl_record.specs.declared.kind.Kind.TheVariants as kinds
 use Rattle.dl_record.specs.declared.kind.Behind.{Behind}
@@ -130,7 +130,7 @@ record_found alone before bytes at x fits e =
     subst (λ (y : Stored × ℕ). RecordFound alone before bytes at y.0 y.1) (ok_is (r, head.end) x b.2) (record {
       is = record {
         position = subst (λ (k : ℕ). k < 2 ^ 32) (sym c.position) s.position;
-        txid = subst (λ (k : ℕ). k ≤ MAX) (sym c.txid) s.txid;
+        txid = subst (λ (k : ℕ). k ≤ MAX_TXID) (sym c.txid) s.txid;
         payload = subst (λ (l : List ℕ). length l ≤ PAYLOAD_MAX) (sym c.payload) (omega (arith, len, s.short));
         members = c.members;
       };

@@ -8,7 +8,7 @@ use Rattle.std.proofs.lemmas.List.Elements.{All-from_recursion}
 use Rattle.dl_codec.specs.Fields.{field}
 use Rattle.dl_codec.proofs.FieldLaws.{width_8, width_16, width_32, width_64}
 use Rattle.dl_record.specs.declared.limits.TheConstants.{ENTRY_MAX}
-use Rattle.dl_types.specs.declared.txid.TheConstants.TxId.{MAX}
+use Rattle.dl_types.specs.declared.txid.TheConstants.{MAX_TXID}
 use Rattle.dl_record.specs.declared.stored.Stored.{Stored}
 use Rattle.dl_record.specs.declared.stored.Stored.TheVariants.{Control}
 use Rattle.dl_record.specs.Stored.{position_of, txid_of}
@@ -66,7 +66,7 @@ pub body_fits : (parts : List Stored) → IsEntry parts → length (flat_map rec
 body_fits parts h = omega (arith, length-entry_bytes parts, h.size)
 
 -- a control record alone is an entry
-pub control_entry : (position txid : ℕ) → position < 2 ^ 32 → txid ≤ MAX → IsEntry (Control position txid ∷ [])
+pub control_entry : (position txid : ℕ) → position < 2 ^ 32 → txid ≤ MAX_TXID → IsEntry (Control position txid ∷ [])
 control_entry position txid p t = record {
   some = omega arith;
   records = (record { position = p; txid = t; payload = omega arith; members = tt }, (refl, (tt, tt)));

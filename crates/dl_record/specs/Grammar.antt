@@ -3,7 +3,7 @@ use Rattle.std.specs.Prelude.{◌≡◌, ℕ, ◌+◌, ◌≤◌, ◌<◌, ◌^�
 use Rattle.std.specs.List.{flat_map}
 use Rattle.std.specs.Int.{w8, w16, w32, w64}
 use Rattle.dl_codec.specs.Fields.{field}
-use Rattle.dl_types.specs.declared.txid.TheConstants.TxId.{MAX}
+use Rattle.dl_types.specs.declared.txid.TheConstants.{MAX_TXID}
 use Rattle.dl_record.specs.declared.limits.TheConstants.{ENTRY_MAX, PAYLOAD_MAX, MEMBERS_MAX}
 use Rattle.dl_record.specs.declared.stored.Stored.{Stored}
 use Rattle.dl_record.specs.declared.stored.Stored.TheVariants.{Plain, Control, Set}
@@ -55,7 +55,7 @@ IsMembers (Set position txid payloads) = (1 ≤ length payloads) × (length payl
 -- A stored record by itself: its numbers fit their fields, and its payload is not too long.
 pub record IsRecord (r : Stored) : Type 0 where
   pub position : position_of r < 2 ^ 32
-  pub txid : txid_of r ≤ MAX
+  pub txid : txid_of r ≤ MAX_TXID
   pub payload : length (payload_bytes r) ≤ PAYLOAD_MAX
   pub members : IsMembers r
 

@@ -1,7 +1,7 @@
 -- Reading an entry in the order of its bytes, up to the first flaw.
 use Rattle.std.specs.Prelude.{◌≡◌, ℕ, zero, suc, ◌+◌, Bool, true, ◌==◌, nat_le, nat_lt, ◌&&◌, not, Option, Some, None, Result, Ok, Err, List, [], ◌∷◌, length, take, slice_range, if◌then◌else◌, MatchOption}
 use Rattle.std.specs.Int.{Width, w8, w16, w32, w64}
-use Rattle.dl_types.specs.declared.txid.TheConstants.TxId.{MAX}
+use Rattle.dl_types.specs.declared.txid.TheConstants.{MAX_TXID}
 use Rattle.dl_codec.specs.declared.short.Short as codec
 use Rattle.dl_codec.specs.Fields.{number_at}
 use Rattle.dl_record.specs.declared.limits.TheConstants.{ENTRY_MAX, PAYLOAD_MAX, MEMBERS_MAX}
@@ -123,7 +123,7 @@ kind_at alone bytes at = do
 unfoldable pub txid_at : Option Behind → List ℕ → ℕ → Result ℕ EntryFlaw
 txid_at before bytes at = do
   n ← field_at w64 bytes at
-  if nat_lt MAX n then Err (BadFlags at) else allowed (may_bear before n) (TxidBack at) n
+  if nat_lt MAX_TXID n then Err (BadFlags at) else allowed (may_bear before n) (TxidBack at) n
 
 -- whether a record of this kind may have a payload of so many bytes
 abbrev pub may_hold : Kind → ℕ → Bool

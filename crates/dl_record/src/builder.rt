@@ -6,9 +6,9 @@ ghost use Rattle.dl_record.specs.Rows.{row_count};
 ghost use Rattle.dl_record.specs.Building.{MayFollow};
 
 use crate::encode::{HEADER, close_entry, put_payload, put_set};
-use crate::entry_bytes::EntryBytes;
 use crate::limits::{ENTRY_MAX, MEMBERS_MAX, PAYLOAD_MAX};
 use bytes::Bytes;
+use dl_types::entry_bytes::EntryBytes;
 use dl_types::memory::NoMemory;
 use dl_types::payload::Payload;
 use dl_types::txid::TxId;

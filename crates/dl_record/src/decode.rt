@@ -7,11 +7,11 @@ use crate::entry_fault::EntryFault;
 use crate::head::{head_of, header_of};
 use crate::kind::{Behind, Head, Kind};
 use crate::limits::ENTRY_MAX;
-use crate::payloads::Payloads;
 use crate::records::Records;
 use crate::sets::{member_end_of, set_count_of};
 use crate::stored::Stored;
 use dl_types::payload::Payload;
+use dl_types::payloads::Payloads;
 use std::alloc::Global;
 
 /// The payloads of so many members, which end with the bytes.

@@ -7,11 +7,11 @@ ghost use Rattle.std.specs.Prelude.{[], ◌∷◌};
 ghost use Rattle.dl_record.specs.declared.stored.Stored.TheVariants.{Control};
 ghost use Rattle.dl_record.specs.Grammar.{member_bytes, set_bytes, fields_and_payload, header_bytes, record_bytes, entry_bytes, IsRecord, IsEntry};
 
-use crate::entry_bytes::EntryBytes;
 use crate::limits::{ENTRY_MAX, MEMBERS_MAX, PAYLOAD_MAX};
 use crate::stored::Stored;
 use byteorder::{BigEndian, ByteOrder};
 use dl_codec::write::{put_u8, put_u16, put_u32, put_u64};
+use dl_types::entry_bytes::EntryBytes;
 use dl_types::memory::NoMemory;
 use dl_types::payload::Payload;
 use dl_types::txid::TxId;

@@ -5,7 +5,7 @@ use crate::entry_flaw::EntryFlaw;
 use crate::fields::{end_of, u8_at, u16_at, u32_at, u64_at};
 use crate::kind::{Behind, Head, Kind};
 use crate::limits::{ENTRY_MAX, PAYLOAD_MAX};
-use dl_types::txid::TxId;
+use dl_types::txid::{MAX_TXID, TxId};
 
 /// The version at a place, which is 1.
 #[tactic(auto, unfolding(crate::specs::Reading::version_at))]
@@ -149,7 +149,7 @@ fn txid_of(before: Option<Behind>, bytes: &[u8], at: usize) -> Result<TxId, Entr
     ensures room { IfOk result (λ n. at + 8 ≤ length bytes.now) }
 {
     let txid = u64_at(bytes, at)?;
-    if txid > TxId::MAX {
+    if txid > MAX_TXID {
         Err(EntryFlaw::BadFlags { at })
     } else if may_bear(before, txid) {
         Ok(TxId::new(txid))

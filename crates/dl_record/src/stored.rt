@@ -1,7 +1,7 @@
 ghost use Rattle.std.specs.Prelude.{◌≡◌, ◌<◌, ◌^◌};
 
-use crate::payloads::Payloads;
 use dl_types::payload::Payload;
+use dl_types::payloads::Payloads;
 use dl_types::txid::TxId;
 
 /// A stored record of an entry (DistributedLog documentation, "Log records"). Its position is the count of the user rows

@@ -148,7 +148,6 @@ fn builds_and_walks(rt: HostRuntime) -> Result<(), Fail> {
     let copy = builder.entry()?;
     let entry = builder.finish()?;
     assert_eq!(rt; entry.as_slice(), ENTRY.as_slice());
-    assert_eq!(rt; copy.to_bytes()?.as_slice(), ENTRY.as_slice());
     assert_eq!(rt; copy.into_bytes().as_slice(), ENTRY.as_slice());
     builder.clear();
     assert_eq!(rt; builder.rows(), 0);

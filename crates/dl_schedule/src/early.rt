@@ -6,7 +6,6 @@ ghost use Rattle.dl_schedule.specs.Faults.{IsBadAt, ReadsAs, Parses, parsed_earl
 ghost use Rattle.dl_schedule.specs.Reading.{client_at, append_at, flush_at, rest_at, free_at, fixed_at, said_at, early_at};
 
 use crate::bookie_count::BookieCount;
-use dl_types::line_fault::LineFault;
 use crate::step::Step;
 use crate::verb::{Opening, Verb};
 use dl_text::hex::hex_of;
@@ -14,6 +13,7 @@ use dl_text::number::number_of;
 use dl_text::stop::Stop;
 use dl_text::word::word_at;
 use dl_types::client::ClientId;
+use dl_types::line_fault::LineFault;
 use dl_types::memory::NoMemory;
 use dl_types::name::Name;
 use dl_types::payload::Payload;

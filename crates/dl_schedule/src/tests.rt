@@ -1,6 +1,6 @@
 use crate::early::parse_early;
-use dl_types::line_fault::LineFault;
 use crate::step::Step;
+use dl_types::line_fault::LineFault;
 use dl_types::txid::MAX_TXID;
 use std::test::Fail;
 

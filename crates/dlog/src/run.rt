@@ -7,13 +7,13 @@ ghost use Rattle.dlog.specs.Run.{line_limit, schedule_limit};
 use crate::ended::Ended;
 use crate::machine::Machine;
 use crate::text::read_line;
-use dl_text::line::first_line;
-use dl_types::line_fault::LineFault;
 use dl_schedule::step::Step;
+use dl_text::line::first_line;
 use dl_transcript::events::Events;
 use dl_transcript::print::put_events;
-use dl_types::memory::NoMemory;
 use dl_types::limit::LimitName;
+use dl_types::line_fault::LineFault;
+use dl_types::memory::NoMemory;
 use std::alloc::Global;
 use std::marker::Model;
 

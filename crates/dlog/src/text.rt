@@ -2,8 +2,8 @@ ghost use Rattle.std.specs.Prelude.{◌≡◌, ◌++◌, IfOk};
 ghost use Rattle.dl_schedule.specs.Faults.{Parses, parsed_early};
 
 use dl_schedule::early::parse_early;
-use dl_types::line_fault::LineFault;
 use dl_schedule::step::Step;
+use dl_types::line_fault::LineFault;
 use dl_types::memory::NoMemory;
 use std::alloc::Global;
 
