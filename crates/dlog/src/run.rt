@@ -1,13 +1,15 @@
 ghost use Rattle.std.specs.Prelude.{◌≡◌, ◌+◌, ◌<◌, ◌≤◌, ◌++◌, [], length, OnOk, IfOk, None, false};
-ghost use Rattle.dlog.specs.Progress.{Progress, TakesLine, TakesBytes, Feeds, IsReady, begun, ends_as, ended_with, has_feed, behind, limit_of, size_of};
+ghost use Rattle.dlog.specs.Progress.{Progress, TakesLine, TakesBytes, Feeds, IsReady, begun, ends_as, ended_with, behind, limit_of, size_of};
+ghost use Rattle.dl_text.specs.TextLines.{has_feed};
 ghost use Rattle.dlog.specs.Machine.{Within};
 ghost use Rattle.dlog.specs.Run.{line_limit, schedule_limit};
 
 use crate::ended::Ended;
 use crate::machine::Machine;
-use crate::text::{first_line, read_line};
+use crate::text::read_line;
 use dl_schedule::fault::LineFault;
 use dl_schedule::step::Step;
+use dl_text::line::first_line;
 use dl_transcript::events::Events;
 use dl_transcript::print::put_events;
 use dl_types::memory::NoMemory;
