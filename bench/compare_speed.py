@@ -13,7 +13,7 @@ import re, shutil, subprocess, sys
 from replays import Run, built, schedule
 
 ROWS = [
-    ("append, flush, settle", 240000),
+    ("append, flush, settle", 150000),
     ("a thousand appends a settle", 240000),
     ("appends in full entries", 200000),
     ("payloads of 8,000 bytes", 3000),
