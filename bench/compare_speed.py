@@ -3,7 +3,7 @@
 
 usage: bench/compare_speed.py OTHER [WORD ..]
 
-On each shape of schedule `dlog replay` and `OTHER WORD .. replay` run in turn, nine times each, and the least processor
+On each shape of schedule `dlog replay` and `OTHER WORD .. replay` run in turn, five times each, and the least processor
 time of each is told, with how many times as much dlog takes. What they print is compared by its length alone
 (bench/compare_replays.py compares the bytes). Where valgrind is there, the instructions of one run of each are counted
 too, which other work on the machine does not change.
@@ -13,12 +13,12 @@ import re, shutil, subprocess, sys
 from replays import Run, built, schedule
 
 ROWS = [
-    ("append, flush, settle", 300000),
-    ("a thousand appends a settle", 300000),
+    ("append, flush, settle", 150000),
+    ("a thousand appends a settle", 240000),
     ("appends in full entries", 200000),
     ("payloads of 8,000 bytes", 3000),
 ]
-TURNS = 9
+TURNS = 5
 
 
 def instructions(command, given):

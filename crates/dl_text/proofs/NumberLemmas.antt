@@ -255,17 +255,10 @@ pub digits_within : {B : Type 0} (now : B → List ℕ) (r : Result (ℕ × B) S
 digits_within now (Ok x) low high end v bytes big from below given = let f = digits_found high end v bytes x.0 (now x.1) big below given in (omega (arith, f.0, from), f.1)
 digits_within now (Err e) low high end v bytes big from below given = tt
 
--- the digits of a number, with the last one apart
-
-pub last_digit : (n : ℕ) → 10 ≤ n → n < 2 ^ 64 → decimal (n / 10) ++ (48 + n % 10) ∷ [] ≡ decimal n
-last_digit n h small = sym (decimal_step n h small)
-
-pub last_digit_long : (n : ℕ) → 10 ≤ n → n < 2 ^ 64 → length (decimal n) ≡ length (decimal (n / 10)) + 1
-last_digit_long n h small = ap length (decimal_step n h small) ∙ length-append (decimal (n / 10)) ((48 + n % 10) ∷ [])
-
-pub only_digit_long : (n : ℕ) → n < 10 → length (decimal n) ≡ 1
-only_digit_long n h = ap length (decimal_digit n h)
-
 -- a u64 has at most 20 digits
 pub digits_few : (n : ℕ) → n < 2 ^ 64 → length (decimal n) ≤ 20
 digits_few n small = length-decimal-le 20 n (lit< tt) (omega arith) small
+
+-- the field of a number of one digit
+pub short_field : (n end : ℕ) → n < 10 → (48 + n) ∷ end ∷ [] ≡ number end n
+short_field n end h = ap (λ (t : List ℕ). t ++ end ∷ []) (sym (decimal_digit n h))

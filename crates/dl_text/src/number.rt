@@ -1,4 +1,4 @@
-ghost use Rattle.std.specs.Prelude.{◌≡◌, ◌≤◌, ◌<◌, ◌+◌, ◌*◌, ◌++◌, ℕ, IfOk, length, decimal, vec_len, vec_capacity};
+ghost use Rattle.std.specs.Prelude.{◌≡◌, ◌≤◌, ◌<◌, ◌+◌, ◌*◌, ℕ, IfOk};
 ghost use Rattle.std.specs.Option.{SomeIff};
 ghost use Rattle.dl_text.specs.Readers.{Gives};
 ghost use Rattle.dl_text.specs.Numbers.{number, number_at, digits_at, IsRange, IsWithin};
@@ -6,9 +6,13 @@ ghost use Rattle.dl_text.specs.Outputs.{Puts};
 
 use crate::stop::Stop;
 use dl_types::memory::NoMemory;
+use itoa::write_digits;
 
-/// Room for any number field: the 20 digits of the greatest u64, and the byte that ends it.
-const FIELD_ROOM: usize = 21;
+/// The most digits of a number: those of the greatest u64.
+const DIGITS: usize = 20;
+
+/// Room for any number, and the byte that ends it.
+const FIELD: usize = DIGITS + 1;
 
 /// The value with one more digit, where it is at most `high`.
 fn push_digit(high: u64, value: u64, digit: u8) -> Option<u64>
@@ -66,30 +70,17 @@ pub fn number_of(low: u64, high: u64, end: u8, bytes: &[u8]) -> Result<(u64, &[u
     }
 }
 
-/// Puts the digits of a number at the end of a text that has room for them.
-#[tactic(auto, using(crate::proofs::NumberLemmas::last_digit_long, crate::proofs::NumberLemmas::only_digit_long, crate::proofs::NumberLemmas::digits_few))]
-fn put_digits(out: &mut Vec<u8>, n: u64)
-    requires { vec_len out.old + length (decimal n) ≤ vec_capacity out.old }
-    ensures items { out.new.items ≡ out.old.items ++ decimal n }
-    ensures length { vec_len out.new ≡ vec_len out.old + length (decimal n) }
-    ensures capacity { vec_capacity out.old ≤ vec_capacity out.new }
-{
-    if n < 10 {
-        out.push(b'0' + n as u8).unwrap();
-        return;
-    }
-    put_digits(out, n / 10);
-    out.push(b'0' + (n % 10) as u8).unwrap();
-}
-
-/// Puts the one spelling of a number at the end of a text, and the byte `end` behind it. No memory is taken but for
-/// the text's own growth; where that is refused, the text is as before.
-#[tactic(auto, using(crate::proofs::NumberLemmas::digits_few))]
+/// Puts the one spelling of a number at the end of a text, and the byte `end` behind it, in one go. No memory is taken but
+/// for the text's own growth; where that is refused, the text is as before.
 pub fn put_number(out: &mut Vec<u8>, end: u8, n: u64) -> Result<(), NoMemory>
     ensures { Puts out.old.items out.new.items (number end n) result }
 {
-    out.reserve(FIELD_ROOM)?;
-    put_digits(out, n);
-    out.push(end).unwrap();
+    if n < 10 {
+        out.extend_from_slice(&[b'0' + n as u8, end])?;
+        return Ok(());
+    }
+    let mut field = [end; FIELD];
+    let start = write_digits(n, &mut field, DIGITS);
+    out.extend_from_slice(&field[start..])?;
     Ok(())
 }
