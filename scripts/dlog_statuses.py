@@ -18,11 +18,13 @@ OPENING = b"setup 3 3 3 2\njoin 0\ncreate 0 s\nsettle\nopen 0 s\nsettle\n"
 OPENED = b"2 joined 0 1\n4 created 0 s\n6 writer 0 s 1\n"
 LINES, BYTES = 1_000_000, 16_777_216
 
+GONE = object()  # a pipe whose reading end is closed
+
 failed = []
 
 
 def run(words, stdin=b"", stdout=None, stderr=None, closed=(), memory=None):
-    """One run. A stream is bytes or a path to open; `closed` lists the descriptors that are closed."""
+    """One run. A stream is bytes, a path to open or GONE; `closed` lists the descriptors that are closed."""
 
     def prepare():
         for number in closed:
@@ -35,6 +37,11 @@ def run(words, stdin=b"", stdout=None, stderr=None, closed=(), memory=None):
     def stream(path, mode):
         if path is None:
             return subprocess.PIPE
+        if path is GONE:
+            reader, writer = os.pipe()
+            os.close(reader)
+            opened.append(writer)
+            return writer
         opened.append(os.open(path, mode))
         return opened[-1]
 
@@ -121,6 +128,7 @@ check("a closed standard input", (3, b"", note(b"read fault")), run(["replay"], 
 # 4: a write failed.
 check("a full standard output", (4, None, note(b"write fault")), run(["replay"], OPENING, stdout="/dev/full"))
 check("a closed standard output", (4, None, note(b"write fault")), run(["replay"], OPENING, closed=[1]))
+check("a standard output whose reader is gone", (4, None, note(b"write fault")), run(["replay"], OPENING, stdout=GONE))
 check("a full standard output before a bad line", (4, None, note(b"write fault")), run(["replay"], OPENING + b"x", stdout="/dev/full"))
 
 # 12: past a limit.

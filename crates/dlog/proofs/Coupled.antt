@@ -35,7 +35,8 @@ abbrev pub ActLeads : ℕ → History → Effect Log → Type 0
 ActLeads sessions s act = Leads (LogFits sessions act.0) s act.1
 
 -- a record is taken
-take_leads : (sessions : ℕ) (g : Log) (txid : ℕ) (payload : List ℕ) (s : History) → g.last ≤ txid → LogFits sessions g s → ActLeads sessions s (take g txid payload)
+take_leads : (sessions : ℕ) (g : Log) (txid : ℕ) (payload : List ℕ) (s : History) → g.last ≤ txid → LogFits sessions g s
+    → ActLeads sessions s (take g txid payload)
 unfolding take
 take_leads sessions g txid payload s le h =
     let r : Row = next_row g txid payload in
@@ -59,7 +60,8 @@ send_leads sessions g s h =
     (record { rows = h.rows; grown = h.grown; took = took_send g h.rows h.took; parts = h.parts ∙ ap (λ xs. h.grown ++ xs) (sym same); seen = h.seen })
 
 -- an entry is sent, and then a record is taken
-send_and_take_leads : (sessions : ℕ) (g : Log) (txid : ℕ) (payload : List ℕ) (s : History) → g.last ≤ txid → LogFits sessions g s → ActLeads sessions s (send_and_take g txid payload)
+send_and_take_leads : (sessions : ℕ) (g : Log) (txid : ℕ) (payload : List ℕ) (s : History) → g.last ≤ txid → LogFits sessions g s
+    → ActLeads sessions s (send_and_take g txid payload)
 unfolding send_and_take send
 send_and_take_leads sessions g txid payload s le h =
     leads_both (LogFits sessions (send g).0) (LogFits sessions (take (send g).0 txid payload).0) s (send g).1 (take (send g).0 txid payload).1

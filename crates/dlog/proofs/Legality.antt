@@ -16,7 +16,8 @@ use Rattle.dlog.proofs.Steps.{Coupled, StepLeads, start_coupled, one_leads}
 use Rattle.dlog.proofs.Opening.{Opens, IsDue, start_opens, early_is_due, due_may, one_opens}
 
 -- what the machine shows from a state that fits what was seen has no fault
-no_fault : (steps : List Step) (from n m : ℕ) (s : State) (seen : History) → AreEarly n steps → Opens n s → Coupled s seen → m ≤ n + 1 → first_fault from m seen (shown_from s n steps) ≡ None
+no_fault : (steps : List Step) (from n m : ℕ) (s : State) (seen : History) → AreEarly n steps → Opens n s → Coupled s seen → m ≤ n + 1
+    → first_fault from m seen (shown_from s n steps) ≡ None
 unfolding first_fault shown_from
 no_fault [] from n m s seen early opens h le = refl
 no_fault (x ∷ steps) from n m s seen early opens h le =
@@ -30,7 +31,8 @@ pub every_early_run : EveryEarlyRunIsLegal
 every_early_run steps early = ap is_none (no_fault steps 1 0 0 start no_history early start_opens start_coupled (omega arith))
 
 -- the steps that lines say are early ones
-said_early : (n : ℕ) (line : List ℕ) (rest : Schedule) (read : Result Step ℕ) → parsed_early (n + 1) line ≡ read → AreEarly (n + 1) rest.steps → AreEarly n (with_line (n + 1) read rest).steps
+said_early : (n : ℕ) (line : List ℕ) (rest : Schedule) (read : Result Step ℕ) → parsed_early (n + 1) line ≡ read → AreEarly (n + 1) rest.steps
+    → AreEarly n (with_line (n + 1) read rest).steps
 said_early n line rest (Ok x) e early = ((parsed_found (n + 1) line x e).0, early)
 said_early n line rest (Err column) e early = tt
 

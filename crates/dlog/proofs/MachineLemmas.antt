@@ -69,7 +69,8 @@ later : (n : ℕ) (s : State) → Within n s → Within (n + 1) s
 later n s w = record { sessions = omega (arith, w.sessions); log = log_later n s.log w.log }
 
 -- an act that counts up by one at most keeps the counts of the machine within one number more
-on_log_within : (n : ℕ) (s : State) (o : Option Log) (f : Log → Effect Log) (other : List Event) → ((g : Log) → CountsUp g (f g).0) → s.sessions < n + 1 → IfSome s.log (LogWithin n) → IfSome o (LogWithin n) → Within (n + 1) (on_log f other s o).0
+on_log_within : (n : ℕ) (s : State) (o : Option Log) (f : Log → Effect Log) (other : List Event) → ((g : Log) → CountsUp g (f g).0) → s.sessions < n + 1
+    → IfSome s.log (LogWithin n) → IfSome o (LogWithin n) → Within (n + 1) (on_log f other s o).0
 on_log_within n s None f other up sessions whole w = record { sessions = sessions; log = log_later n s.log whole }
 on_log_within n s (Some g) f other up sessions whole w = record { sessions = sessions; log = log_within n g (f g).0 (up g) w }
 

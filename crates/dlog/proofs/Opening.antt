@@ -75,7 +75,8 @@ opened : (n : ℕ) (s : State) → 5 < n → Opens n s
 opened n s h = record { log = λ k. absurd (omega arith); order = λ k. absurd (omega arith) }
 
 -- what is confirmed opens nothing
-confirm_opens : (n sessions : ℕ) (o : Option Order) (log : Option Log) → Opens n (state sessions o log) → Opens n (on_log confirm [] (state sessions o log) log).0
+confirm_opens : (n sessions : ℕ) (o : Option Order) (log : Option Log) → Opens n (state sessions o log)
+    → Opens n (on_log confirm [] (state sessions o log) log).0
 confirm_opens n sessions o None h = h
 confirm_opens n sessions o (Some g) h = record { log = λ k. absurd (let clash : Some g ≡ None = h.log k in cc); order = h.order }
 

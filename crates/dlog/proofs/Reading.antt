@@ -33,7 +33,8 @@ lines_read n line = record {
 }
 
 -- a line within the limits says what the reader answers
-says_line : (n bytes : ℕ) (line : List ℕ) (lines : List (List ℕ)) (read : Result Step ℕ) → parsed_early (n + 1) line ≡ read → limit_of n (bytes + length line) ≡ None
+says_line : (n bytes : ℕ) (line : List ℕ) (lines : List (List ℕ)) (read : Result Step ℕ) → parsed_early (n + 1) line ≡ read
+    → limit_of n (bytes + length line) ≡ None
     → Say (n + 1) (bytes + length line) lines (schedule_from (n + 1) (bytes + length line) lines)
     → Say n bytes (line ∷ lines) (with_line (n + 1) read (schedule_from (n + 1) (bytes + length line) lines))
 says_line n bytes line lines (Ok s) e free later = let is = parsed_found (n + 1) line s e in Say.one_step free is.0 is.1 later
@@ -85,5 +86,6 @@ word_is_empty bytes h = go (is_utf8 bytes) refl
     go false e = refl
 
 -- equal words ask for the same
-pub usage_along : (s : Status) (given words : List (List ℕ)) → given ≡ words → ((place : ℕ) → (s ≡ Usage place) ↔ (command_of given ≡ Err place)) → (place : ℕ) → (s ≡ Usage place) ↔ (command_of words ≡ Err place)
+pub usage_along : (s : Status) (given words : List (List ℕ)) → given ≡ words → ((place : ℕ) → (s ≡ Usage place) ↔ (command_of given ≡ Err place))
+    → (place : ℕ) → (s ≡ Usage place) ↔ (command_of words ≡ Err place)
 usage_along s given words e usage place = let P : List (List ℕ) → Type 0 = λ x. (s ≡ Usage place) ↔ (command_of x ≡ Err place) in subst P e (usage place)

@@ -21,7 +21,8 @@ pub reads_nothing : (a : Option (List ℕ)) (p : RunState) → ReadsOn a a p p
 reads_nothing a p = record { taken = []; consumed = consumes_nothing a; same = λ more. refl }
 
 -- a further piece was read
-pub reads_more : (a b c : Option (List ℕ)) (old mid new : RunState) (piece : List ℕ) → ReadsOn a b old mid → Consumes b c piece → Feeds mid new piece None → ReadsOn a c old new
+pub reads_more : (a b c : Option (List ℕ)) (old mid new : RunState) (piece : List ℕ) → ReadsOn a b old mid → Consumes b c piece → Feeds mid new piece None
+    → ReadsOn a c old new
 reads_more a b c old mid new piece t k f = record {
   taken = t.taken ++ piece;
   consumed = consumes_more a b c t.taken piece t.consumed k;
@@ -29,7 +30,8 @@ reads_more a b c old mid new piece t k f = record {
 }
 
 -- a piece came to the stop
-pub reads_to_stop : (a b c : Option (List ℕ)) (old mid new : RunState) (piece : List ℕ) (ended : Ended) → ReadsOn a b old mid → Consumes b c piece → Feeds mid new piece (Some ended) → ReadsToEnd a c old new ended
+pub reads_to_stop : (a b c : Option (List ℕ)) (old mid new : RunState) (piece : List ℕ) (ended : Ended) → ReadsOn a b old mid → Consumes b c piece
+    → Feeds mid new piece (Some ended) → ReadsToEnd a c old new ended
 reads_to_stop a b c old mid new piece ended t k f = record {
   taken = t.taken ++ piece;
   consumed = consumes_more a b c t.taken piece t.consumed k;
@@ -38,7 +40,8 @@ reads_to_stop a b c old mid new piece ended t k f = record {
 }
 
 -- the input came to its end
-pub reads_to_end : (a b c : Option (List ℕ)) (old mid new : RunState) (ended : Ended) → ReadsOn a b old mid → Consumes b c [] → IsAtEnd c → ends_as mid [] ≡ outcome_at new ended → ReadsToEnd a c old new ended
+pub reads_to_end : (a b c : Option (List ℕ)) (old mid new : RunState) (ended : Ended) → ReadsOn a b old mid → Consumes b c [] → IsAtEnd c
+    → ends_as mid [] ≡ outcome_at new ended → ReadsToEnd a c old new ended
 reads_to_end a b c old mid new ended t k done e = record {
   taken = t.taken ++ [];
   consumed = consumes_more a b c t.taken [] t.consumed k;
@@ -78,7 +81,8 @@ decided left taken P (Decides.at_end done p) = subst P (sym (ap (λ t. taken ++ 
 decided left taken P (Decides.whatever each) = each (rest_of left)
 
 -- and so does what follows from it
-decides_to : (left : Option (List ℕ)) (taken : List ℕ) (P Q : List ℕ → Type 0) → ((text : List ℕ) → P text → Q text) → Decides left taken P → Decides left taken Q
+decides_to : (left : Option (List ℕ)) (taken : List ℕ) (P Q : List ℕ → Type 0) → ((text : List ℕ) → P text → Q text) → Decides left taken P
+    → Decides left taken Q
 decides_to left taken P Q step (Decides.at_end done p) = Decides.at_end done (step taken p)
 decides_to left taken P Q step (Decides.whatever each) = Decides.whatever (λ more. step (taken ++ more) (each more))
 
@@ -90,7 +94,8 @@ runs_to p q ended input new e =
     record { text = ap (λ (o : Outcome). o.text) whole; end = ap (λ (o : Outcome). o.ended) whole }
 
 -- a run that has read to its end decides it
-run_decides : (lo ln : Option (List ℕ)) (p q : RunState) (ended : Ended) → p ≡ new_run → (t : ReadsToEnd lo ln p q ended) → Decides ln t.taken (RunsTo q.text ended)
+run_decides : (lo ln : Option (List ℕ)) (p q : RunState) (ended : Ended) → p ≡ new_run → (t : ReadsToEnd lo ln p q ended)
+    → Decides ln t.taken (RunsTo q.text ended)
 run_decides lo ln p q ended new t = decides_to ln t.taken (λ text. ends_as p text ≡ outcome_at q ended) (RunsTo q.text ended) (λ text e. runs_to p q ended text new e) t.decides
 
 -- what the run over a text prints is the printing of its transcript, which is legal
@@ -107,7 +112,8 @@ came_to (BadLine line column) A P p = p
 came_to (Limit name number) A P p = p
 
 -- a run that came to its end, and all that it printed was given
-pub replays_end : (lo ln ho hn : Option (List ℕ)) (fo fn : Option ℕ) (p q : RunState) (ended : Ended) → p ≡ new_run → ReadsToEnd lo ln p q ended → Appends ho hn q.text → FinishesAll hn fo fn → Replays lo ln ho hn fo fn (status_of ended)
+pub replays_end : (lo ln ho hn : Option (List ℕ)) (fo fn : Option ℕ) (p q : RunState) (ended : Ended) → p ≡ new_run → ReadsToEnd lo ln p q ended
+    → Appends ho hn q.text → FinishesAll hn fo fn → Replays lo ln ho hn fo fn (status_of ended)
 replays_end lo ln ho hn fo fn p q ended new t k f =
     let d : Decides ln t.taken (RunsTo q.text ended) = run_decides lo ln p q ended new t in
     let r : RunsTo q.text ended (t.taken ++ rest_of ln) = decided ln t.taken (RunsTo q.text ended) d in
@@ -123,7 +129,8 @@ replays_end lo ln ho hn fo fn p q ended new t k f =
     }
 
 -- a run that came to its end, and some front of what it printed was given
-pub replays_write_fault : (lo ln ho hn : Option (List ℕ)) (fo fn : Option ℕ) (p q : RunState) (ended : Ended) → p ≡ new_run → ReadsToEnd lo ln p q ended → GivesFront ho hn q.text → Replays lo ln ho hn fo fn status.WriteFault
+pub replays_write_fault : (lo ln ho hn : Option (List ℕ)) (fo fn : Option ℕ) (p q : RunState) (ended : Ended) → p ≡ new_run → ReadsToEnd lo ln p q ended
+    → GivesFront ho hn q.text → Replays lo ln ho hn fo fn status.WriteFault
 replays_write_fault lo ln ho hn fo fn p q ended new t f =
     let r : RunsTo q.text ended (t.taken ++ rest_of ln) = decided ln t.taken (RunsTo q.text ended) (run_decides lo ln p q ended new t) in
     record {

@@ -134,7 +134,8 @@ next_follows g rows txid payload le t = record {
 }
 
 -- the acts keep this: a record is taken, an entry is sent, the entries are confirmed
-pub took_take : (g : Log) (rows : List Row) (txid : ℕ) (payload : List ℕ) → g.last ≤ txid → TookRows g rows → TookRows (take g txid payload).0 (rows ++ next_row g txid payload ∷ [])
+pub took_take : (g : Log) (rows : List Row) (txid : ℕ) (payload : List ℕ) → g.last ≤ txid → TookRows g rows
+    → TookRows (take g txid payload).0 (rows ++ next_row g txid payload ∷ [])
 unfolding take
 took_take g rows txid payload le t =
     let r : Row = next_row g txid payload in

@@ -22,7 +22,8 @@ pub record MayTake (s : History) (c call : ℕ) : Type 0 where
   pub next : call ≡ length (s.clients c).taken + 1
 
 -- so the record keeps its rule
-pub keeps_took : (s : History) (c call : ℕ) (stream : List ℕ) (txid : ℕ) (payload : List ℕ) → MayTake s c call → keeps s (Took c call stream txid payload) ≡ true
+pub keeps_took : (s : History) (c call : ℕ) (stream : List ℕ) (txid : ℕ) (payload : List ℕ) → MayTake s c call
+    → keeps s (Took c call stream txid payload) ≡ true
 unfolding keeps
 keeps_took s c call stream txid payload h = eq-eqb call (length (s.clients c).taken + 1) h.next
 

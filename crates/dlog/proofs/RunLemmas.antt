@@ -26,7 +26,8 @@ print_numbered line [] = refl
 print_numbered line (e ∷ events) = ap (λ (t : List ℕ). print_event line e ++ t) (print_numbered line events)
 
 -- the events of a line, and those of later ones
-print_more : (line : ℕ) (events : List Event) (later : List (ℕ × Event)) → print_transcript (numbered line events ++ later) ≡ print_all line events ++ print_transcript later
+print_more : (line : ℕ) (events : List Event) (later : List (ℕ × Event))
+    → print_transcript (numbered line events ++ later) ≡ print_all line events ++ print_transcript later
 print_more line events later =
     flat_map-append (λ (x : ℕ × Event). print_event x.0 x.1) (numbered line events) later
     ∙ ap (λ (t : List ℕ). t ++ print_transcript later) (print_numbered line events)
@@ -34,11 +35,13 @@ print_more line events later =
 -- one line of a schedule
 
 -- a line past a limit is the stop
-pub schedule_stop : (n bytes : ℕ) (line : List ℕ) (lines : List (List ℕ)) (ended : Ended) → limit_of n (bytes + length line) ≡ Some ended → schedule_from n bytes (line ∷ lines) ≡ no_steps ended
+pub schedule_stop : (n bytes : ℕ) (line : List ℕ) (lines : List (List ℕ)) (ended : Ended) → limit_of n (bytes + length line) ≡ Some ended
+    → schedule_from n bytes (line ∷ lines) ≡ no_steps ended
 unfolding schedule_from
 schedule_stop n bytes line lines ended h = go (nat_le line_limit n) (nat_lt schedule_limit (bytes + length line)) (Limit Lines line_limit) (Limit Bytes schedule_limit) _ h
   where
-    go : (a b : Bool) (x y : Ended) (later : Schedule) → cond a (Some x) (cond b (Some y) None) ≡ Some ended → cond a (no_steps x) (cond b (no_steps y) later) ≡ no_steps ended
+    go : (a b : Bool) (x y : Ended) (later : Schedule) → cond a (Some x) (cond b (Some y) None) ≡ Some ended
+        → cond a (no_steps x) (cond b (no_steps y) later) ≡ no_steps ended
     go true b x y later e = ap no_steps (let f : Some x ≡ Some ended = e in cc)
     go false true x y later e = ap no_steps (let f : Some y ≡ Some ended = e in cc)
     go false false x y later e = absurd cc
@@ -49,31 +52,36 @@ pub schedule_goes : (n bytes : ℕ) (line : List ℕ) (lines : List (List ℕ)) 
 unfolding schedule_from
 schedule_goes n bytes line lines h = go (nat_le line_limit n) (nat_lt schedule_limit (bytes + length line)) (Limit Lines line_limit) (Limit Bytes schedule_limit) _ h
   where
-    go : (a b : Bool) (x y : Ended) (later : Schedule) → cond {A = Option Ended} a (Some x) (cond b (Some y) None) ≡ None → cond a (no_steps x) (cond b (no_steps y) later) ≡ later
+    go : (a b : Bool) (x y : Ended) (later : Schedule) → cond {A = Option Ended} a (Some x) (cond b (Some y) None) ≡ None
+        → cond a (no_steps x) (cond b (no_steps y) later) ≡ later
     go true b x y later e = absurd cc
     go false true x y later e = absurd cc
     go false false x y later e = refl
 
 -- a run that stops prints no more
-stop_prints : (p : RunState) (said : Schedule) (ended : Ended) → said ≡ no_steps ended → with_front p.text (outcome_of p.state p.lines said) ≡ outcome_at p ended
+stop_prints : (p : RunState) (said : Schedule) (ended : Ended) → said ≡ no_steps ended
+    → with_front p.text (outcome_of p.state p.lines said) ≡ outcome_at p ended
 unfolding shown_from
 stop_prints p said ended e =
     ap (λ (x : Schedule). with_front p.text (outcome_of p.state p.lines x)) e
     ∙ ap (λ (t : List ℕ). record { text = t; ended = ended }) (append-nil p.text)
 
 -- so a run stops at a line past a limit
-pub limit_stops : (p : RunState) (line : List ℕ) (ended : Ended) → limit_of p.lines (p.bytes + length line) ≡ Some ended → (lines : List (List ℕ)) → after_lines p (line ∷ lines) ≡ outcome_at p ended
+pub limit_stops : (p : RunState) (line : List ℕ) (ended : Ended) → limit_of p.lines (p.bytes + length line) ≡ Some ended → (lines : List (List ℕ))
+    → after_lines p (line ∷ lines) ≡ outcome_at p ended
 limit_stops p line ended h lines = stop_prints p (schedule_from p.lines p.bytes (line ∷ lines)) ended (schedule_stop p.lines p.bytes line lines ended h)
 
 -- and at a line outside the grammar
-pub bad_line_stops : (p : RunState) (line : List ℕ) (column : ℕ) → limit_of p.lines (p.bytes + length line) ≡ None → parsed_early (p.lines + 1) line ≡ Err column
+pub bad_line_stops : (p : RunState) (line : List ℕ) (column : ℕ) → limit_of p.lines (p.bytes + length line) ≡ None
+    → parsed_early (p.lines + 1) line ≡ Err column
     → (lines : List (List ℕ)) → after_lines p (line ∷ lines) ≡ outcome_at p (BadLine (p.lines + 1) column)
 bad_line_stops p line column h bad lines =
     stop_prints p (schedule_from p.lines p.bytes (line ∷ lines)) (BadLine (p.lines + 1) column)
     (schedule_goes p.lines p.bytes line lines h ∙ ap (λ (r : Result Step ℕ). with_line (p.lines + 1) r (schedule_from (p.lines + 1) (p.bytes + length line) lines)) bad)
 
 -- a step prints what it shows, before what follows
-step_prints : (p : RunState) (length : ℕ) (step : Step) (later : Schedule) → with_front p.text (outcome_of p.state p.lines (with_line (p.lines + 1) (Ok step) later)) ≡ with_front (behind p length step).text (outcome_of (one p.state step).0 (p.lines + 1) later)
+step_prints : (p : RunState) (length : ℕ) (step : Step) (later : Schedule)
+    → with_front p.text (outcome_of p.state p.lines (with_line (p.lines + 1) (Ok step) later)) ≡ with_front (behind p length step).text (outcome_of (one p.state step).0 (p.lines + 1) later)
 unfolding shown_from
 step_prints p length step later =
     let front = print_all (p.lines + 1) (one p.state step).1 in
@@ -95,7 +103,9 @@ line_goes p line step h good lines =
 pub within_limits : (n bytes : ℕ) → limit_of n bytes ≡ None → (n < line_limit) × (bytes ≤ schedule_limit)
 within_limits n bytes h = go (nat_le line_limit n) (nat_lt schedule_limit bytes) refl refl h
   where
-    go : (a b : Bool) → nat_le line_limit n ≡ a → nat_lt schedule_limit bytes ≡ b → cond {A = Option Ended} a (Some (Limit Lines line_limit)) (cond b (Some (Limit Bytes schedule_limit)) None) ≡ None → (n < line_limit) × (bytes ≤ schedule_limit)
+    go : (a b : Bool) → nat_le line_limit n ≡ a → nat_lt schedule_limit bytes ≡ b
+        → cond {A = Option Ended} a (Some (Limit Lines line_limit)) (cond b (Some (Limit Bytes schedule_limit)) None) ≡ None
+        → (n < line_limit) × (bytes ≤ schedule_limit)
     go true b s t e = absurd cc
     go false true s t e = absurd cc
     go false false s t e = (leb-false line_limit n s, ltb-false schedule_limit bytes t)
@@ -129,11 +139,13 @@ line_free : (p : RunState) (size : ℕ) (back : List ℕ) → Keeps p size back 
 line_free p size back k = ap (λ (n : ℕ). limit_of p.lines (p.bytes + n)) (sym (line_size p size back k)) ∙ k.free
 
 -- a line outside the grammar is taken as the stop
-pub takes_bad : (p : RunState) (size : ℕ) (back : List ℕ) (column : ℕ) → Keeps p size back → parsed_early (p.lines + 1) (p.pending ++ back) ≡ Err column → TakesLine p p (p.pending ++ back) (Some (BadLine (p.lines + 1) column))
+pub takes_bad : (p : RunState) (size : ℕ) (back : List ℕ) (column : ℕ) → Keeps p size back → parsed_early (p.lines + 1) (p.pending ++ back) ≡ Err column
+    → TakesLine p p (p.pending ++ back) (Some (BadLine (p.lines + 1) column))
 takes_bad p size back column k bad = (tt, bad_line_stops p (p.pending ++ back) column (line_free p size back k) bad)
 
 -- a line of the grammar is taken, and the run goes on
-pub takes_step : (p q : RunState) (size : ℕ) (back : List ℕ) (step : Step) → Keeps p size back → parsed_early (p.lines + 1) (p.pending ++ back) ≡ Ok step → q ≡ behind p size step → TakesLine p q (p.pending ++ back) None
+pub takes_step : (p q : RunState) (size : ℕ) (back : List ℕ) (step : Step) → Keeps p size back → parsed_early (p.lines + 1) (p.pending ++ back) ≡ Ok step
+    → q ≡ behind p size step → TakesLine p q (p.pending ++ back) None
 takes_step p q size back step k good e =
     let whole : q ≡ behind p (length (p.pending ++ back)) step = e ∙ ap (λ (n : ℕ). behind p n step) (line_size p size back k) in
     subst (λ (x : RunState). TakesLine p x (p.pending ++ back) None) (sym whole) (refl, line_goes p (p.pending ++ back) step (line_free p size back k) good)
@@ -151,14 +163,16 @@ ready_behind p q size step ready h e =
 -- a piece
 
 -- a line of the piece was run
-pub feed_goes : (p q : RunState) (rest line after more : List ℕ) → IsReady p → IsFirstLine rest line after → TakesLine p q (p.pending ++ line) None → ends_as p (rest ++ more) ≡ ends_as q (after ++ more)
+pub feed_goes : (p q : RunState) (rest line after more : List ℕ) → IsReady p → IsFirstLine rest line after → TakesLine p q (p.pending ++ line) None
+    → ends_as p (rest ++ more) ≡ ends_as q (after ++ more)
 feed_goes p q rest line after more ready first takes =
     ap (after_lines p) (lines_split p.pending rest line after more ready.plain first)
     ∙ takes.1 (lines_of (after ++ more))
     ∙ ap (λ (t : List ℕ). after_lines q (lines_of (t ++ (after ++ more)))) (sym takes.0)
 
 -- a line of the piece is the stop
-pub feed_stops : (p q : RunState) (rest line after more : List ℕ) (ended : Ended) → IsReady p → IsFirstLine rest line after → TakesLine p q (p.pending ++ line) (Some ended) → ends_as p (rest ++ more) ≡ outcome_at q ended
+pub feed_stops : (p q : RunState) (rest line after more : List ℕ) (ended : Ended) → IsReady p → IsFirstLine rest line after
+    → TakesLine p q (p.pending ++ line) (Some ended) → ends_as p (rest ++ more) ≡ outcome_at q ended
 feed_stops p q rest line after more ended ready first takes =
     ap (after_lines p) (lines_split p.pending rest line after more ready.plain first) ∙ takes.1 (lines_of (after ++ more))
 
@@ -191,7 +205,8 @@ limit_longer n a b ended le h = go (nat_le line_limit n) (nat_lt schedule_limit 
     go false false k e = absurd cc
 
 -- a line that is past a limit before its end is past it
-keeps_limit_go : (p : RunState) (whole more : List ℕ) (ended : Ended) → has_feed whole ≡ false → 0 < length whole → limit_of p.lines (p.bytes + length whole) ≡ Some ended → after_lines p (lines_of (whole ++ more)) ≡ outcome_at p ended
+keeps_limit_go : (p : RunState) (whole more : List ℕ) (ended : Ended) → has_feed whole ≡ false → 0 < length whole
+    → limit_of p.lines (p.bytes + length whole) ≡ Some ended → after_lines p (lines_of (whole ++ more)) ≡ outcome_at p ended
 keeps_limit_go p [] more ended plain some h = absurd (omega arith)
 keeps_limit_go p (b ∷ bytes) more ended plain some h =
     let w = lines_begin b bytes more plain in
@@ -199,7 +214,8 @@ keeps_limit_go p (b ∷ bytes) more ended plain some h =
     ap (after_lines p) w.parts ∙ limit_stops p (b ∷ bytes ++ w.tail) ended (limit_longer p.lines (p.bytes + length (b ∷ bytes)) (p.bytes + length (b ∷ bytes ++ w.tail)) ended longer h) w.later
 
 -- pending bytes past a limit are the stop
-pub keeps_limit : (p : RunState) (piece : List ℕ) (ended : Ended) → has_feed p.pending ≡ false → has_feed piece ≡ false → (length p.pending + length piece ≡ 0 → ⊥)
+pub keeps_limit : (p : RunState) (piece : List ℕ) (ended : Ended) → has_feed p.pending ≡ false → has_feed piece ≡ false
+    → (length p.pending + length piece ≡ 0 → ⊥)
     → limit_of p.lines (p.bytes + length (p.pending ++ piece)) ≡ Some ended → Feeds p p piece (Some ended)
 keeps_limit p piece ended plain other some h = (
   limit_is_stop p.lines (p.bytes + length (p.pending ++ piece)) ended h,
@@ -212,7 +228,8 @@ pub keeps_more : (p q : RunState) (piece : List ℕ) → q ≡ record p { pendin
 keeps_more p q piece e = subst (λ (x : RunState). Feeds p x piece None) (sym e) (λ more. ap (λ (t : List ℕ). after_lines p (lines_of t)) (sym (append_assoc p.pending piece more)))
 
 -- and the run can go on
-pub ready_more : (p q : RunState) (piece : List ℕ) → IsReady p → has_feed piece ≡ false → limit_of p.lines (p.bytes + (length p.pending + length piece)) ≡ None → q ≡ record p { pending = p.pending ++ piece } → IsReady q
+pub ready_more : (p q : RunState) (piece : List ℕ) → IsReady p → has_feed piece ≡ false
+    → limit_of p.lines (p.bytes + (length p.pending + length piece)) ≡ None → q ≡ record p { pending = p.pending ++ piece } → IsReady q
 ready_more p q piece ready plain h e =
     let w = within_limits p.lines (p.bytes + (length p.pending + length piece)) h in
     subst IsReady (sym e) (record {
@@ -237,14 +254,16 @@ last_line [] plain some = absurd (omega arith)
 last_line (b ∷ bytes) plain some = ap lines_of (append-nil (b ∷ bytes)) ∙ lines_last b bytes plain
 
 -- the last line was run
-pub ends_last : (p q : RunState) (line : List ℕ) → IsReady p → (length p.pending ≡ 0 → ⊥) → line ≡ p.pending ++ [] → TakesLine p q line None → ends_as p [] ≡ outcome_at q Done
+pub ends_last : (p q : RunState) (line : List ℕ) → IsReady p → (length p.pending ≡ 0 → ⊥) → line ≡ p.pending ++ [] → TakesLine p q line None
+    → ends_as p [] ≡ outcome_at q Done
 unfolding schedule_from shown_from
 ends_last p q line ready some e takes =
     ap (after_lines p) (last_line p.pending ready.plain (omega (arith, some)) ∙ ap (λ (t : List ℕ). t ∷ []) (sym (e ∙ append-nil p.pending)))
     ∙ takes.1 [] ∙ ap (λ (t : List ℕ). record { text = t; ended = Done }) (append-nil q.text)
 
 -- the last line is the stop
-pub ends_stop : (p q : RunState) (line : List ℕ) (ended : Ended) → IsReady p → (length p.pending ≡ 0 → ⊥) → line ≡ p.pending ++ [] → TakesLine p q line (Some ended) → ends_as p [] ≡ outcome_at q ended
+pub ends_stop : (p q : RunState) (line : List ℕ) (ended : Ended) → IsReady p → (length p.pending ≡ 0 → ⊥) → line ≡ p.pending ++ []
+    → TakesLine p q line (Some ended) → ends_as p [] ≡ outcome_at q ended
 ends_stop p q line ended ready some e takes =
     ap (after_lines p) (last_line p.pending ready.plain (omega (arith, some)) ∙ ap (λ (t : List ℕ). t ∷ []) (sym (e ∙ append-nil p.pending)))
     ∙ takes.1 []
@@ -252,18 +271,21 @@ ends_stop p q line ended ready some e takes =
 -- what the code keeps of a run says this of it
 
 -- the limit that the code tests is that of the whole line
-pub limit_from : (p : RunState) (lines bytes len : ℕ) (back : List ℕ) (o : Option Ended) → lines ≡ p.lines → bytes ≡ p.bytes → len ≡ length p.pending → o ≡ limit_of lines (bytes + (len + length back)) → limit_of p.lines (p.bytes + length (p.pending ++ back)) ≡ o
+pub limit_from : (p : RunState) (lines bytes len : ℕ) (back : List ℕ) (o : Option Ended) → lines ≡ p.lines → bytes ≡ p.bytes → len ≡ length p.pending
+    → o ≡ limit_of lines (bytes + (len + length back)) → limit_of p.lines (p.bytes + length (p.pending ++ back)) ≡ o
 limit_from p lines bytes len back o a b d e =
     let size : p.bytes + length (p.pending ++ back) ≡ bytes + (len + length back) = omega (arith, length-append p.pending back, b, d) in
     ap (λ (n : ℕ). limit_of p.lines n) size ∙ ap (λ (n : ℕ). limit_of n (bytes + (len + length back))) (sym a) ∙ sym e
 
 -- the line that was read is the one whose bytes came in two pieces
-pub read_as : (p : RunState) (lines : ℕ) (front pending back : List ℕ) (r : Result Step ℕ) → lines ≡ p.lines → pending ≡ p.pending → front ≡ pending → parsed_early (lines + 1) (front ++ back) ≡ r → parsed_early (p.lines + 1) (p.pending ++ back) ≡ r
+pub read_as : (p : RunState) (lines : ℕ) (front pending back : List ℕ) (r : Result Step ℕ) → lines ≡ p.lines → pending ≡ p.pending → front ≡ pending
+    → parsed_early (lines + 1) (front ++ back) ≡ r → parsed_early (p.lines + 1) (p.pending ++ back) ≡ r
 read_as p lines front pending back r a b d e =
     ap (λ (n : ℕ). parsed_early (n + 1) (p.pending ++ back)) (sym a) ∙ ap (λ (t : List ℕ). parsed_early (lines + 1) (t ++ back)) (sym (d ∙ b)) ∙ e
 
 -- the line of the fault is the next one
-pub bad_at : (p : RunState) (number column : ℕ) (whole : List ℕ) → number ≡ p.lines + 1 → TakesLine p p whole (Some (BadLine (p.lines + 1) column)) → TakesLine p p whole (Some (BadLine number column))
+pub bad_at : (p : RunState) (number column : ℕ) (whole : List ℕ) → number ≡ p.lines + 1 → TakesLine p p whole (Some (BadLine (p.lines + 1) column))
+    → TakesLine p p whole (Some (BadLine number column))
 bad_at p number column whole e takes = subst (λ (n : ℕ). TakesLine p p whole (Some (BadLine n column))) (sym e) takes
 
 -- the code sees that something is pending
@@ -271,5 +293,6 @@ pub some_pending : (p : RunState) (t : Bool) (len : ℕ) → len ≡ length p.pe
 some_pending p t len size test none e = eqb-false len 0 (sym test ∙ none) (size ∙ e)
 
 -- the bytes of a piece were taken
-pub fed_size : (p q : RunState) (rest line after : List ℕ) (all : ℕ) → size_of q ≡ size_of p + length line → IsFirstLine rest line after → size_of p + length rest ≡ all → size_of q + length after ≡ all
+pub fed_size : (p q : RunState) (rest line after : List ℕ) (all : ℕ) → size_of q ≡ size_of p + length line → IsFirstLine rest line after
+    → size_of p + length rest ≡ all → size_of q + length after ≡ all
 fed_size p q rest line after all grown first before = omega (arith, grown, first_size rest line after first, before)

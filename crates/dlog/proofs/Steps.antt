@@ -86,7 +86,8 @@ no_order None = tt
 no_order (Some g) = refl
 
 -- a log is opened: its client is the writer of the first segment
-writer_leads : (sessions : ℕ) (c : ℕ) (stream : List ℕ) (seen : History) → NoneSeen sessions seen → StepLeads seen (state sessions None (Some (new_log c stream)), Writer c stream segment ∷ [])
+writer_leads : (sessions : ℕ) (c : ℕ) (stream : List ℕ) (seen : History) → NoneSeen sessions seen
+    → StepLeads seen (state sessions None (Some (new_log c stream)), Writer c stream segment ∷ [])
 writer_leads sessions c stream seen h =
     leads_one (Coupled (state sessions None (Some (new_log c stream)))) seen (Writer c stream segment)
     (keeps_writer seen c stream segment (record {
@@ -100,7 +101,8 @@ writer_leads sessions c stream seen h =
     })
 
 -- the order under way ends
-finish_leads : (sessions : ℕ) (o : Option Order) (log : Option Log) (seen : History) → Coupled (state sessions o log) seen → StepLeads seen (finish (state sessions o log) o)
+finish_leads : (sessions : ℕ) (o : Option Order) (log : Option Log) (seen : History) → Coupled (state sessions o log) seen
+    → StepLeads seen (finish (state sessions o log) o)
 unfolding keeps sees
 finish_leads sessions None log seen h = leads_none (Coupled (state sessions None log)) seen h
 finish_leads sessions (Some (order.Create c stream)) log seen h = leads_one (Coupled (state sessions None log)) seen (Created c stream) refl (record { log = h.log; order = no_order log })
@@ -110,7 +112,8 @@ finish_leads sessions (Some (order.Open c stream)) (Some g) seen h = absurd (non
 -- acts of the log
 
 -- an act of the log that was opened, or what is shown without one
-on_log_leads : (f : Log → Effect Log) (other : List Event) (sessions : ℕ) (o : Option Order) (log : Option Log) (seen : History) → ((g : Log) → LogFits sessions g seen → ActLeads sessions seen (f g)) → Keeps seen other seen
+on_log_leads : (f : Log → Effect Log) (other : List Event) (sessions : ℕ) (o : Option Order) (log : Option Log) (seen : History)
+    → ((g : Log) → LogFits sessions g seen → ActLeads sessions seen (f g)) → Keeps seen other seen
     → Coupled (state sessions o log) seen → StepLeads seen (on_log f other (state sessions o log) log)
 on_log_leads f other sessions o None seen acts k h = record { seen = seen; keep = k; fits = h }
 on_log_leads f other sessions o (Some g) seen acts k h =

@@ -77,7 +77,8 @@ stream_same : (stream : List ℕ) (r : Row) → is_taken (Some (as_taken stream 
 stream_same stream r = and_from _ _ (and_from _ _ ((bytes_eq-Decides stream stream).1 refl) (eq-eqb r.txid r.txid refl)) ((bytes_eq-Decides r.payload r.payload).1 refl)
 
 -- a record is taken
-took_fits : (w : WriterHistory) (s : History) (call : ℕ) (r : Row) → Fits w s → Fits (record w { taken = w.taken ++ r ∷ [] }) (sees s (Took w.client call w.stream r.txid r.payload))
+took_fits : (w : WriterHistory) (s : History) (call : ℕ) (r : Row) → Fits w s
+    → Fits (record w { taken = w.taken ++ r ∷ [] }) (sees s (Took w.client call w.stream r.txid r.payload))
 unfolding sees
 took_fits w s call r f =
     let then : ClientHistory = record (s.clients w.client) { taken = (s.clients w.client).taken ++ as_taken w.stream r ∷ [] } in
@@ -99,7 +100,8 @@ took_leads w s call r number f =
     (keeps_took s w.client call w.stream r.txid r.payload (record { next = number ∙ ap (λ n. n + 1) (sym count) })) (took_fits w s call r f)
 
 -- the next row grows
-may_grow : (w : WriterHistory) (s : History) (r : Row) (back : List Row) → Follows w.client w.grown r → w.taken ≡ w.grown ++ r ∷ back → Fits w s → MayGrow s w.stream r
+may_grow : (w : WriterHistory) (s : History) (r : Row) (back : List Row) → Follows w.client w.grown r → w.taken ≡ w.grown ++ r ∷ back → Fits w s
+    → MayGrow s w.stream r
 may_grow w s r back t parts f = record {
   segment = t.in_segment ∙ ap (λ n. n + 1) (sym f.rows.closed);
   above = subst (λ rows. list_all (λ (x : Row). is_before x.place r.place) rows ≡ true) (sym f.rows.grown) t.above;
@@ -153,7 +155,8 @@ stands_there s c n stream rows front r back taken client call seen parts =
     ∙ any_at (λ (x : Row). is_from c n x && is_same x.place r.place) front r back here
 
 -- the first row that isn't acknowledged may be
-may_ack : (w : WriterHistory) (s : History) (front : List Row) (r : Row) (back later : List Row) → Follows w.client front r → w.taken ≡ front ++ r ∷ later → w.grown ≡ front ++ r ∷ back → w.acked ≡ length front → Fits w s → MayAck s r
+may_ack : (w : WriterHistory) (s : History) (front : List Row) (r : Row) (back later : List Row) → Follows w.client front r → w.taken ≡ front ++ r ∷ later
+    → w.grown ≡ front ++ r ∷ back → w.acked ≡ length front → Fits w s → MayAck s r
 may_ack w s front r back later t all parts acks f =
     let mine : ClientFits w.stream w.taken w.acked (s.clients r.origin.client) = of_client w s r.origin.client t.client f in
     record {
@@ -163,7 +166,8 @@ may_ack w s front r back later t all parts acks f =
     }
 
 -- a row is acknowledged
-acked_fits : (w : WriterHistory) (s : History) (r : Row) → r.origin.client ≡ w.client → r.origin.call ≡ w.acked + 1 → Fits w s → Fits (record w { acked = w.acked + 1 }) (sees s (ack r))
+acked_fits : (w : WriterHistory) (s : History) (r : Row) → r.origin.client ≡ w.client → r.origin.call ≡ w.acked + 1 → Fits w s
+    → Fits (record w { acked = w.acked + 1 }) (sees s (ack r))
 unfolding sees
 acked_fits w s r client call f =
     let mine : ClientFits w.stream w.taken w.acked (s.clients r.origin.client) = of_client w s r.origin.client client f in
@@ -179,7 +183,8 @@ acked_fits w s r client call f =
     }
 
 -- so an acknowledgement leads on
-ack_leads : (w : WriterHistory) (s : History) (front : List Row) (r : Row) (back later : List Row) → InTurn w.client [] w.taken → w.taken ≡ front ++ r ∷ later → w.grown ≡ front ++ r ∷ back → w.acked ≡ length front → Fits w s
+ack_leads : (w : WriterHistory) (s : History) (front : List Row) (r : Row) (back later : List Row) → InTurn w.client [] w.taken
+    → w.taken ≡ front ++ r ∷ later → w.grown ≡ front ++ r ∷ back → w.acked ≡ length front → Fits w s
     → Leads (Fits (record w { acked = w.acked + 1 })) s (ack r ∷ [])
 ack_leads w s front r back later t all parts acks f =
     let turn : Follows w.client front r = follows_at w.client w.taken front r later all t in
@@ -187,7 +192,8 @@ ack_leads w s front r back later t all parts acks f =
     (acked_fits w s r turn.client (turn.call ∙ ap (λ n. n + 1) (sym acks)) f)
 
 -- the rows that stand and aren't acknowledged are, one after another
-acks_lead : (rows front later : List Row) (w : WriterHistory) (s : History) → InTurn w.client [] w.taken → w.taken ≡ w.grown ++ later → w.grown ≡ front ++ rows → w.acked ≡ length front → Fits w s
+acks_lead : (rows front later : List Row) (w : WriterHistory) (s : History) → InTurn w.client [] w.taken → w.taken ≡ w.grown ++ later
+    → w.grown ≡ front ++ rows → w.acked ≡ length front → Fits w s
     → Leads (Fits (record w { acked = length w.grown })) s (map ack rows)
 acks_lead [] front later w s t all parts acks f =
     let same : w.acked ≡ length w.grown = acks ∙ ap length (sym (append-nil front)) ∙ ap length (sym parts) in
@@ -204,7 +210,8 @@ abbrev pub upto : WriterHistory → List Row → WriterHistory
 upto w rows = record w { grown = rows; acked = length rows }
 
 -- an entry is confirmed
-confirmed_leads : (rows back grown : List Row) (w : WriterHistory) (s : History) → InTurn w.client [] w.taken → w.taken ≡ grown ++ (rows ++ back) → Fits (upto w grown) s
+confirmed_leads : (rows back grown : List Row) (w : WriterHistory) (s : History) → InTurn w.client [] w.taken → w.taken ≡ grown ++ (rows ++ back)
+    → Fits (upto w grown) s
     → Leads (Fits (upto w (grown ++ rows))) s (entry_events w.stream rows)
 confirmed_leads rows back grown w s t parts f =
     leads_both (Fits (record (upto w grown) { grown = grown ++ rows })) (Fits (upto w (grown ++ rows))) s (map (grow w.stream) rows) (map ack rows)
@@ -212,7 +219,8 @@ confirmed_leads rows back grown w s t parts f =
     (λ u h. acks_lead rows grown back (record (upto w grown) { grown = grown ++ rows }) u t (parts ∙ sym (append_assoc grown rows back)) refl refl h)
 
 -- entries are entry_events, one after another
-pub entries_lead : (entries : List (List Row)) (back grown : List Row) (w : WriterHistory) (s : History) → InTurn w.client [] w.taken → w.taken ≡ grown ++ (flat_map (λ rows. rows) entries ++ back) → Fits (upto w grown) s
+pub entries_lead : (entries : List (List Row)) (back grown : List Row) (w : WriterHistory) (s : History) → InTurn w.client [] w.taken
+    → w.taken ≡ grown ++ (flat_map (λ rows. rows) entries ++ back) → Fits (upto w grown) s
     → Leads (Fits (upto w (grown ++ flat_map (λ rows. rows) entries))) s (flat_map (entry_events w.stream) entries)
 entries_lead [] back grown w s t parts f =
     leads_none (Fits (upto w (grown ++ []))) s (subst (λ g. Fits (upto w g) s) (sym (append-nil grown)) f)

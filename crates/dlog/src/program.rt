@@ -33,9 +33,13 @@ pub fn program<S: Source, K: Sink, N: Sink>(
     ensures no_words { IsErr words → result ≡ Status.NoMemory }
     ensures untouched { IsErr words → (source.new ≡ source.old) × (sink.new ≡ sink.old) }
     ensures usage { IfOk words (λ w. (place : ℕ) → (result ≡ Status.Usage place) ↔ (command_of w.items ≡ Err place)) }
-    ensures replays { IfOk words (λ w. command_of w.items ≡ Ok Command.Replay → Replays (S.left source.old) (S.left source.new) (K.held sink.old) (K.held sink.new) (K.finished sink.old) (K.finished sink.new) result) }
-    ensures noted { Noted (N.held notes.old) (N.held notes.new) (N.write_faults notes.old) (N.write_faults notes.new) (note result) }
-    ensures finished { NoteFinished (N.held notes.new) (N.finished notes.old) (N.finished notes.new) (N.write_faults notes.old) (N.write_faults notes.new) result }
+    ensures replays { IfOk words (λ w. command_of w.items ≡ Ok Command.Replay →
+        Replays (S.left source.old) (S.left source.new) (K.held sink.old) (K.held sink.new)
+        (K.finished sink.old) (K.finished sink.new) result) }
+    ensures noted { Noted (N.held notes.old) (N.held notes.new) (N.write_faults notes.old)
+        (N.write_faults notes.new) (note result) }
+    ensures finished { NoteFinished (N.held notes.new) (N.finished notes.old) (N.finished notes.new)
+        (N.write_faults notes.old) (N.write_faults notes.new) result }
 {
     match words {
         Err(NoMemory) => {

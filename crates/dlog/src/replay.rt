@@ -115,7 +115,8 @@ fn replay_run<S: Source, K: Sink>(
     run: &mut Run,
 ) -> Status
     requires { run.old ≡ new_run }
-    ensures replays { Replays (S.left source.old) (S.left source.new) (K.held sink.old) (K.held sink.new) (K.finished sink.old) (K.finished sink.new) result }
+    ensures replays { Replays (S.left source.old) (S.left source.new) (K.held sink.old) (K.held sink.new)
+        (K.finished sink.old) (K.finished sink.new) result }
     ensures read { result ≡ Status.ReadFault → Rose (S.read_faults source.old) (S.read_faults source.new) }
     ensures write { result ≡ Status.WriteFault → Rose (K.write_faults sink.old) (K.write_faults sink.new) }
 {
@@ -132,7 +133,8 @@ fn replay_run<S: Source, K: Sink>(
 /// Replays the schedule that the source has left, and gives its transcript to the sink: reads, runs and then gives. The
 /// source is read no further than it takes to know the stop.
 pub fn replay<S: Source, K: Sink>(alloc: Global, source: &mut S, sink: &mut K) -> Status
-    ensures replays { Replays (S.left source.old) (S.left source.new) (K.held sink.old) (K.held sink.new) (K.finished sink.old) (K.finished sink.new) result }
+    ensures replays { Replays (S.left source.old) (S.left source.new) (K.held sink.old) (K.held sink.new)
+        (K.finished sink.old) (K.finished sink.new) result }
     ensures read { result ≡ Status.ReadFault → Rose (S.read_faults source.old) (S.read_faults source.new) }
     ensures write { result ≡ Status.WriteFault → Rose (K.write_faults sink.old) (K.write_faults sink.new) }
 {

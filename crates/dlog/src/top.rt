@@ -22,7 +22,9 @@ fn run_words<S: Source, K: Sink>(
 ) -> Status
     ensures usage { (place : ℕ) → (result ≡ Status.Usage place) ↔ (command_of words.now ≡ Err place) }
     ensures untouched { IsErr (command_of words.now) → (source.new ≡ source.old) × (sink.new ≡ sink.old) }
-    ensures replays { command_of words.now ≡ Ok Command.Replay → Replays (S.left source.old) (S.left source.new) (K.held sink.old) (K.held sink.new) (K.finished sink.old) (K.finished sink.new) result }
+    ensures replays { command_of words.now ≡ Ok Command.Replay →
+        Replays (S.left source.old) (S.left source.new) (K.held sink.old) (K.held sink.new)
+        (K.finished sink.old) (K.finished sink.new) result }
     ensures read { result ≡ Status.ReadFault → Rose (S.read_faults source.old) (S.read_faults source.new) }
     ensures write { result ≡ Status.WriteFault → Rose (K.write_faults sink.old) (K.write_faults sink.new) }
 {
@@ -53,11 +55,15 @@ pub fn dlog_main<S: Source, K: Sink, N: Sink>(
 ) -> Status
     ensures usage { (place : ℕ) → (result ≡ Status.Usage place) ↔ (command_of words.now ≡ Err place) }
     ensures untouched { IsErr (command_of words.now) → (source.new ≡ source.old) × (sink.new ≡ sink.old) }
-    ensures replays { command_of words.now ≡ Ok Command.Replay → Replays (S.left source.old) (S.left source.new) (K.held sink.old) (K.held sink.new) (K.finished sink.old) (K.finished sink.new) result }
+    ensures replays { command_of words.now ≡ Ok Command.Replay →
+        Replays (S.left source.old) (S.left source.new) (K.held sink.old) (K.held sink.new)
+        (K.finished sink.old) (K.finished sink.new) result }
     ensures read { result ≡ Status.ReadFault → Rose (S.read_faults source.old) (S.read_faults source.new) }
     ensures write { result ≡ Status.WriteFault → Rose (K.write_faults sink.old) (K.write_faults sink.new) }
-    ensures noted { Noted (N.held notes.old) (N.held notes.new) (N.write_faults notes.old) (N.write_faults notes.new) (note result) }
-    ensures finished { NoteFinished (N.held notes.new) (N.finished notes.old) (N.finished notes.new) (N.write_faults notes.old) (N.write_faults notes.new) result }
+    ensures noted { Noted (N.held notes.old) (N.held notes.new) (N.write_faults notes.old)
+        (N.write_faults notes.new) (note result) }
+    ensures finished { NoteFinished (N.held notes.new) (N.finished notes.old) (N.finished notes.new)
+        (N.write_faults notes.old) (N.write_faults notes.new) result }
     ensures silent { result ≡ Status.Ok → notes.new ≡ notes.old }
 {
     let status = run_words(alloc, words, source, sink);
