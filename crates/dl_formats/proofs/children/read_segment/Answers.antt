@@ -1,6 +1,6 @@
 use Rattle.std.proofs.Common.{Some, ap}
 use Rattle.dl_formats.proofs.ChildLemmas.{zero_only, progress_only, completed_only}
-use Rattle.dl_formats.proofs.children.segment_of.Goals as goal
+use Rattle.dl_formats.proofs.children.read_segment.Goals as goal
 
 pub returns-then-segment-eq0-clause-only : goal.returns-then-segment-eq0-clause-only
 returns-then-segment-eq0-clause-only c =
