@@ -1,6 +1,6 @@
 #!/usr/bin/env python3
 """Prints crates/dl_msg/src/tests/rows.rt: messages of every kind, and what a reading of their layout, written here
-apart from the crate, finds where they are cut or spoilt."""
+apart from the crate, finds in other bytes."""
 
 ALNUM = b"abcdefghijklmnopqrstuvwxyzABCDEFGHIJKLMNOPQRSTUVWXYZ0123456789_-"
 SHORT, BAD, LONG = 1000, 2000, 3000
@@ -238,17 +238,10 @@ def table(name, kind, values, text):
     print("];\n")
 
 
-def spoilt(row):
-    return [found(row[:i] + bytes([row[i] ^ 1]) + row[i + 1:]) for i in range(len(row))]
-
-
-print("//! Messages, and what is found where they are cut or spoilt: 0 for a message, 1000 and the place where a field is cut")
-print("//! short, 2000 and the place of what isn't allowed, 3000 and the place of what is left over. Written by")
-print("//! scripts/message_rows.py.\n")
+print("//! Messages, and what is found in other bytes: 0 for a message, 1000 and the place where a field is cut short, 2000 and")
+print("//! the place of what isn't allowed, 3000 and the place of what is left over. Written by scripts/message_rows.py.\n")
 table("SIZES", "u16", [len(row) for row in ROWS], "/// How long each message is: one or more of every kind.")
 table("BYTES", "u8", b"".join(ROWS), "/// The messages, one behind another.")
-table("CUT", "u16", [found(row[:i]) for row in ROWS for i in range(len(row))], "/// What is found in each message that is cut before each of its bytes.")
-table("CHANGED", "u16", [x for row in ROWS for x in spoilt(row)], "/// What is found in each message where the lowest bit of each of its bytes is another.")
 table("FORM_SIZES", "u16", [len(row) for row in FORMS], "/// How long each of the other rows is: forms of kinds, paths, names and lists.")
 table("FORM_BYTES", "u8", b"".join(FORMS), "/// These rows, one behind another.")
 table("FORMS", "u16", [found(row) for row in FORMS], "/// What is found in each of them.")

@@ -2,8 +2,8 @@ ghost use Rattle.std.specs.Prelude.{◌≡◌, ℕ};
 ghost use Rattle.dl_fields.specs.Readers.{Reads};
 ghost use Rattle.dl_fields.specs.Codes.{code_from};
 
-use crate::number::read_u8;
 use crate::fault::Fault;
+use crate::number::read_u8;
 
 /// A value of a closed list that stands for one byte, its code: a type of no data, one variant a code.
 pub trait Code: Copy {

@@ -2,8 +2,8 @@ ghost use Rattle.std.specs.Prelude.{◌≡◌, ◌≤◌, ◌+◌, length, IfSom
 ghost use Rattle.dl_fields.specs.Readers.{Reads};
 ghost use Rattle.dl_fields.specs.Paths.{is_part_byte, flaw_behind, path_flaw, part_flaw, some_from, path_from, name_from, last_length, is_stem, stem_from};
 
-use crate::run::read_run_u16;
 use crate::fault::Fault;
+use crate::run::read_run_u16;
 
 /// The most bytes of a part of a path.
 const MAX_PART: usize = 80;

@@ -3,8 +3,8 @@ ghost use Rattle.std.specs.Int.{w8, w16, w32, w64};
 ghost use Rattle.dl_fields.specs.Readers.{Reads};
 ghost use Rattle.dl_fields.specs.Fields.{run_from, counted_from};
 
-use crate::number::{read_u16, read_u32};
 use crate::fault::Fault;
+use crate::number::{read_u16, read_u32};
 
 /// So many bytes at the front, and the bytes behind them. The run is short exactly where fewer bytes are there.
 pub fn read_run(size: usize, bytes: &[u8]) -> Result<(&[u8], &[u8]), Fault>

@@ -1,10 +1,10 @@
 ghost use Rattle.std.specs.Prelude.{if◌then◌else◌};
 
 use crate::code::{Code, read_code};
-use crate::number::{read_u8, read_u16, read_u32, read_u64};
-use crate::path::{is_stem, read_name, part_flaw, path_flaw, read_path, read_stem};
-use crate::run::{read_run, read_run_u16, read_run_u32};
 use crate::fault::Fault;
+use crate::number::{read_u8, read_u16, read_u32, read_u64};
+use crate::path::{is_stem, part_flaw, path_flaw, read_name, read_path, read_stem};
+use crate::run::{read_run, read_run_u16, read_run_u32};
 use crate::write::{put_run_u16, put_run_u32};
 use dl_types::memory::NoMemory;
 use std::alloc::Global;

@@ -3,9 +3,9 @@ use Rattle.std.proofs.Common.{◌≡◌, ℕ, ◌-◌, List, length, take, drop,
 use Rattle.std.proofs.lemmas.List.{take_rest}
 use Rattle.dl_formats.specs.declared.segment_name.SegmentName.{SegmentName}
 use Rattle.dl_formats.specs.declared.segment_name.SegmentName.TheVariants.{Progress, Completed}
-use Rattle.dl_formats.specs.Digits.{digits, HasTenDigits}
+use Rattle.dl_fields.specs.Digits.{digits, HasTenDigits}
 use Rattle.dl_formats.specs.Children.{segment_name, IsSegmentName, member_name}
-use Rattle.dl_formats.proofs.DigitLemmas.{same_digits}
+use Rattle.dl_fields.proofs.DigitLemmas.{same_digits}
 
 -- what stands behind the first bytes, as a pattern takes it
 abbrev pub behind : ℕ → List ℕ → List ℕ

@@ -17,7 +17,8 @@ use Rattle.dl_formats.specs.declared.ledger.LedgerState.{LedgerState}
 use Rattle.dl_formats.specs.declared.ledger.LedgerState.TheVariants.{Writing, Recovering, Closed}
 use Rattle.dl_formats.specs.declared.segment.SegmentMeta.{SegmentMeta}
 use Rattle.dl_formats.specs.declared.segment.SegmentMeta.TheVariants.{InProgress, Completed}
-use Rattle.dl_formats.specs.NodeBytes.{IsBetween, ledger_bytes, ten_nines, most_txid, conf_fields, IsConf, state_code, most_count, ledger_fields, IsLedgerFields, fields_of, IsLedgerMeta, segment_kind, segment_rest, segment_fields, IsSegmentMeta, maxseq_fields, IsMaxSeq, cut_fields, IsCut, alloc_fields, alloc_fields_of, IsAllocated, IsAlloc}
+use Rattle.dl_formats.specs.NodeBytes.{IsBetween, ledger_bytes, ten_nines, max_u64, conf_fields, IsConf, state_code, most_count, ledger_fields, IsLedgerFields, fields_of, IsLedgerMeta, segment_kind, segment_rest, segment_fields, IsSegmentMeta, maxseq_fields, IsMaxSeq, cut_fields, IsCut, alloc_fields, alloc_fields_of, IsAllocated, IsAlloc}
+use Rattle.dl_types.specs.declared.txid.TheConstants.{MAX_TXID}
 use Rattle.dl_formats.specs.Reading.{ledger_at, SpellsNone, conf_of, conf_from, state_of, state_from, ledger_of, ledger_from, in_progress_from, completed_from, kind_from, segment_from, maxseq_of, maxseq_from, cut_of, cut_from, most_allocated, alloc_of, alloc_from}
 use Rattle.dl_formats.proofs.DecodeLemmas.{byte_exact, long_exact, node_found, node_again}
 
@@ -76,10 +77,10 @@ in_progress_exact = made_exact _ _ _ (λ x. InProgress x.0 x.1) (IsKind 1) segme
 completed_exact : Exact (IsKind 2) segment_rest completed_from
 completed_exact = made_exact _ _ _ (λ x. Completed x.0 x.1.0 x.1.1.0 x.1.1.1.0 x.1.1.1.1) (IsKind 2) segment_rest
     (then_exact _ _ _ _ _ _ (long_exact 1 ten_nines (lit< tt)) (λ s v. then_exact _ _ _ _ _ _ (long_exact 0 ten_nines (lit< tt))
-    (λ l w. then_exact _ _ _ _ _ _ u64_exact (λ e u. then_exact _ _ _ _ _ _ u64_exact (λ r t. long_exact 0 most_txid (lit< tt))))))
+    (λ l w. then_exact _ _ _ _ _ _ u64_exact (λ e u. then_exact _ _ _ _ _ _ u64_exact (λ r t. long_exact 0 MAX_TXID (lit< tt))))))
     (λ x v. ((v, refl), refl)) from
   where
-    from : (m : SegmentMeta) → IsKind 2 m → (x : ℕ × (ℕ × (ℕ × (ℕ × ℕ)))) × (IsBetween 1 ten_nines x.0 × (IsBetween 0 ten_nines x.1.0 × (Fits w64 x.1.1.0 × (Fits w64 x.1.1.1.0 × IsBetween 0 most_txid x.1.1.1.1)))) × (Completed x.0 x.1.0 x.1.1.0 x.1.1.1.0 x.1.1.1.1 ≡ m)
+    from : (m : SegmentMeta) → IsKind 2 m → (x : ℕ × (ℕ × (ℕ × (ℕ × ℕ)))) × (IsBetween 1 ten_nines x.0 × (IsBetween 0 ten_nines x.1.0 × (Fits w64 x.1.1.0 × (Fits w64 x.1.1.1.0 × IsBetween 0 MAX_TXID x.1.1.1.1)))) × (Completed x.0 x.1.0 x.1.1.0 x.1.1.1.0 x.1.1.1.1 ≡ m)
     from (InProgress s l) w = absurd (omega (arith, w.1))
     from (Completed s l e r t) w = ((s, (l, (e, (r, t)))), w.0, refl)
 
@@ -104,14 +105,14 @@ segment_exact = made_exact _ _ _ (λ x. x.1) IsSegmentMeta segment_fields
 
 pub maxseq_exact : Exact IsMaxSeq maxseq_fields maxseq_from
 maxseq_exact = made_exact _ _ _ maxseq_of IsMaxSeq maxseq_fields
-    (then_exact _ _ _ _ _ _ (long_exact 0 ten_nines (lit< tt)) (λ s v. long_exact 0 most_txid (lit< tt)))
+    (then_exact _ _ _ _ _ _ (long_exact 0 ten_nines (lit< tt)) (λ s v. long_exact 0 MAX_TXID (lit< tt)))
     (λ x v. (v, refl)) (λ m w. ((m.segment, m.last), w, refl))
 
 -- cuts
 
 pub cut_exact : Exact IsCut cut_fields cut_from
 cut_exact = made_exact _ _ _ cut_of IsCut cut_fields
-    (then_exact _ _ _ _ _ _ (long_exact 1 18446744073709551615 (lit< tt)) (λ s v. then_exact _ _ _ _ _ _ u64_exact (λ e w. u32_exact)))
+    (then_exact _ _ _ _ _ _ (long_exact 1 max_u64 (lit< tt)) (λ s v. then_exact _ _ _ _ _ _ u64_exact (λ e w. u32_exact)))
     (λ x v. (v, refl)) (λ c w. ((c.point.segment, (c.point.entry, c.point.slot)), w, refl))
 
 -- allocated ledgers

@@ -6,10 +6,10 @@ use Rattle.std.proofs.lemmas.Bool.Decides.{nat_tests}
 use Rattle.std.specs.List.{AllByRecursion}
 use Rattle.dl_types.specs.Names.{bad_from, is_letter, is_name_byte}
 use Rattle.dl_fields.specs.Paths.{is_part_byte, IsPart, joined, path_of_parts, IsPath, last_length, is_stem, IsStemField}
-use Rattle.dl_formats.specs.Digits.{digits}
+use Rattle.dl_fields.specs.Digits.{digits}
 use Rattle.dl_formats.specs.Keys.{Key, Conf, Streams, Ledgers, Ledger, Stream, MaxSeq, Cut, Alloc, Locks, Member, Segs, Progress, Completed, parts_of, path_of, ledger_stem, member_stem, NoSlash, IsKey, IsName, IsNodeKey}
 use Rattle.dl_formats.specs.KeyLaws.{PathsHaveTheirForm}
-use Rattle.dl_formats.proofs.DigitLemmas.{length-digits}
+use Rattle.dl_fields.proofs.DigitLemmas.{length-digits}
 use Rattle.dl_formats.proofs.KeyLemmas.{joined_more}
 
 -- parts of fixed bytes, and of digits behind them

@@ -7,10 +7,10 @@ use Rattle.std.specs.Cmp.Lexicographic.{nat_list_cmp_total, bytes_decides, slice
 use Rattle.std.specs.Ordering.{nat_cmp, eq_by_cmp}
 use Rattle.std.proofs.lemmas.Bool.Decides.{same_from_decides}
 use Rattle.dl_fields.specs.Paths.{joined}
-use Rattle.dl_formats.specs.Digits.{digits}
+use Rattle.dl_fields.specs.Digits.{digits}
 use Rattle.dl_formats.specs.Keys.{Key, Conf, Streams, Ledgers, Ledger, Stream, MaxSeq, Cut, Alloc, Locks, Member, Segs, Progress, Completed, parts_of, path_of, ledger_stem, member_stem, is_key, NoSlash, IsKey, parent_key, name_of, front_of}
 use Rattle.dl_formats.specs.KeyLaws.{InsertIsByKey, RemoveIsByKey, KeysAreTold, PathsGoByParents}
-use Rattle.dl_formats.proofs.DigitLemmas.{same_digits}
+use Rattle.dl_fields.proofs.DigitLemmas.{same_digits}
 
 -- no part has a slash
 abbrev NoSlashes : List (List ℕ) → Type 0

@@ -1,4 +1,3 @@
-pub mod DigitLemmas
 pub mod KeyLemmas
 pub mod FormLemmas
 pub mod PathLemmas

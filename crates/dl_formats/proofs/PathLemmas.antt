@@ -2,7 +2,7 @@
 use Rattle.std.proofs.Common.{◌≡◌, ℕ, List, [], ◌∷◌, ◌++◌, codes, Result, Ok, Err, IfOk, refl, sym, ap, ap₂, ◌∙◌, append_assoc}
 use Rattle.std.proofs.lemmas.List.{append-nil}
 use Rattle.dl_types.specs.declared.memory.NoMemory.{NoMemory}
-use Rattle.dl_formats.specs.Digits.{digits}
+use Rattle.dl_fields.specs.Digits.{digits}
 use Rattle.dl_formats.specs.Keys.{Conf, Ledger, Stream, MaxSeq, Cut, Alloc, Locks, Segs, Progress, Completed, path_of, ledger_stem, member_stem, name_of}
 use Rattle.dl_formats.proofs.KeyLemmas.{by_parents}
 

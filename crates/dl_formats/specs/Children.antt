@@ -2,7 +2,7 @@
 use Rattle.std.specs.Prelude.{ℕ, ◌≤◌, List, ◌++◌, codes}
 use Rattle.dl_formats.specs.declared.segment_name.SegmentName.{SegmentName}
 use Rattle.dl_formats.specs.declared.segment_name.SegmentName.TheVariants.{Progress, Completed}
-use Rattle.dl_formats.specs.Digits.{digits, HasTenDigits}
+use Rattle.dl_fields.specs.Digits.{digits, HasTenDigits}
 
 -- the name of a segment's node: a letter that says whether the segment is complete, and its number
 abbrev pub segment_name : SegmentName → List ℕ
@@ -13,6 +13,7 @@ segment_name (Completed k) = codes "c" ++ digits 10 k
 abbrev pub IsSegmentNumber : ℕ → Type 0
 IsSegmentNumber k = (1 ≤ k) × HasTenDigits k
 
+-- the names of segments whose number has that form
 abbrev pub IsSegmentName : SegmentName → Type 0
 IsSegmentName (Progress k) = IsSegmentNumber k
 IsSegmentName (Completed k) = IsSegmentNumber k

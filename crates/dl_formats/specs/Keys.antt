@@ -2,8 +2,8 @@
 use Rattle.std.specs.Prelude.{◌≡◌, ℕ, Bool, true, false, ◌&&◌, ◌==◌, List, [], ◌∷◌, ◌++◌, Option, Some, None, codes, bytes_eq}
 use Rattle.dl_types.specs.Names.{name_fault}
 use Rattle.dl_fields.specs.Paths.{joined}
-pub use Rattle.dl_tree.specs.Paths.{NoSlash}
-use Rattle.dl_formats.specs.Digits.{digits, HasTenDigits}
+pub use Rattle.dl_fields.specs.Paths.{NoSlash}
+use Rattle.dl_fields.specs.Digits.{digits, HasTenDigits}
 
 -- a node by what it is for: the configuration, a ledger, or a node of the stream of a name
 pub data Key : Type 0 where

@@ -1,4 +1,3 @@
-pub mod Digits
 pub mod Keys
 pub mod KeyLaws
 pub mod Children

@@ -1,9 +1,9 @@
 -- Reading the bytes of a node: the first fault in the order of the bytes comes, with its place.
-use Rattle.std.specs.Prelude.{◌≡◌, ℕ, ◌-◌, ◌==◌, ◌&&◌, nat_le, if◌then◌else◌, List, Some, None, Result, Ok, Err, length}
+use Rattle.std.specs.Prelude.{◌≡◌, ℕ, ◌-◌, ◌==◌, ◌&&◌, nat_le, if◌then◌else◌, List, Some, None, Result, Ok, Err, IfOk, IfErr, length}
 use Rattle.std.specs.Int.{Width, w8, w32, w64}
 use Rattle.dl_types.specs.Places.{place}
-use Rattle.dl_fields.specs.declared.stop.Stop.{Stop}
-use Rattle.dl_fields.specs.declared.stop.Stop.TheVariants as stop
+use Rattle.dl_fields.specs.declared.fault.Fault.{Fault}
+use Rattle.dl_fields.specs.declared.fault.Fault.TheVariants as fields
 pub use Rattle.dl_fields.specs.Readers.{Reads}
 use Rattle.dl_fields.specs.Readers.{then_from, map_from, passing, whole_from}
 use Rattle.dl_fields.specs.Fields.{number_from}
@@ -18,46 +18,55 @@ use Rattle.dl_formats.specs.declared.ledger.LedgerState.TheVariants.{Writing, Re
 use Rattle.dl_formats.specs.declared.maxseq.MaxSeq.{MaxSeq}
 use Rattle.dl_formats.specs.declared.segment.SegmentMeta.{SegmentMeta}
 use Rattle.dl_formats.specs.declared.segment.SegmentMeta.TheVariants.{InProgress, Completed}
-use Rattle.dl_formats.specs.NodeBytes.{ten_nines, most_txid, most_count}
+use Rattle.dl_formats.specs.NodeBytes.{ten_nines, max_u64, most_count}
+use Rattle.dl_types.specs.declared.txid.TheConstants.{MAX_TXID}
 
 -- a number of a width within bounds; another one is bad at its first byte
-abbrev pub between_from : Width → ℕ → ℕ → List ℕ → Result (ℕ × List ℕ) Stop
+abbrev pub between_from : Width → ℕ → ℕ → List ℕ → Result (ℕ × List ℕ) Fault
 between_from w low high = passing (λ n. nat_le low n && nat_le n high) (number_from w)
 
 -- fields behind the version, which is 1
-abbrev pub versioned_from : {A : Type 0} → (List ℕ → Result (A × List ℕ) Stop) → List ℕ → Result (A × List ℕ) Stop
+abbrev pub versioned_from : {A : Type 0} → (List ℕ → Result (A × List ℕ) Fault) → List ℕ → Result (A × List ℕ) Fault
 versioned_from read = map_from (λ x. x.1) (then_from (between_from w8 1 1) (λ version. read))
 
 -- a node: a version, fields, and nothing behind them
-abbrev pub node_from : {A : Type 0} → (List ℕ → Result (A × List ℕ) Stop) → List ℕ → Result A Stop
+abbrev pub node_from : {A : Type 0} → (List ℕ → Result (A × List ℕ) Fault) → List ℕ → Result A Fault
 node_from read = whole_from (versioned_from read)
 
--- The fault of a stop in so many bytes: its place is counted from the first byte on. The first byte is the version.
--- Readers of nodes take no memory, so that want of memory is no stop of theirs; it is put at the first byte.
-abbrev pub fault_at : ℕ → Stop → MetaBytesFault
-fault_at size stop.NoMemory = Short 0
-fault_at size (stop.Short left) = Short (size - left)
-fault_at size (stop.Bad left) = if left == size then BadVersion 0 else BadKind (size - left)
-fault_at size (stop.Long left) = Long (size - left)
+-- A fault with its place among so many bytes, from the first one on. The first byte is the version.
+abbrev pub fault_at : ℕ → Fault → MetaBytesFault
+fault_at size (fields.Short left) = Short (size - left)
+fault_at size (fields.Bad left) = if left == size then BadVersion 0 else BadKind (size - left)
+fault_at size (fields.Long left) = Long (size - left)
 
-abbrev pub placed : {A : Type 0} → ℕ → Result A Stop → Result A MetaBytesFault
-placed size (Ok a) = Ok a
-placed size (Err stop) = Err (fault_at size stop)
+-- what was read, or the fault with its place among so many bytes
+abbrev pub with_place : {A : Type 0} → ℕ → Result A Fault → Result A MetaBytesFault
+with_place size (Ok a) = Ok a
+with_place size (Err fault) = Err (fault_at size fault)
 
 -- the node that the bytes spell, or the first fault with its place
-abbrev pub node_at : {A : Type 0} → (List ℕ → Result (A × List ℕ) Stop) → List ℕ → Result A MetaBytesFault
-node_at read bytes = placed (length bytes) (node_from read bytes)
+abbrev pub node_at : {A : Type 0} → (List ℕ → Result (A × List ℕ) Fault) → List ℕ → Result A MetaBytesFault
+node_at read bytes = with_place (length bytes) (node_from read bytes)
 
 -- the bytes spell no value that has a spelling
 abbrev pub SpellsNone : {A : Type 0} → (A → Type 0) → (A → List ℕ) → List ℕ → Type 0
 SpellsNone {A} Valid print bytes = (a : A) → Valid a → bytes ≡ print a → ⊥
 
+-- What a decoder answers: what is found is valid, and the bytes are its one spelling; what the bytes spell is the answer;
+-- and a fault is the first in the order of the bytes, and then they spell nothing valid.
+pub record Decodes {A B : Type 0} (Valid : A → Type 0) (print : A → List ℕ) (read : List ℕ → Result B MetaBytesFault) (bytes : List ℕ) (result : Result A MetaBytesFault) : Type 0 where
+  pub found : IfOk result (λ a. Valid a × (bytes ≡ print a))
+  pub only : (a : A) → Valid a → bytes ≡ print a → result ≡ Ok a
+  pub refused : IfErr result (λ fault. (read bytes ≡ Err fault) × SpellsNone Valid print bytes)
+
 -- the fields of each kind of node
 
+-- the configuration of four numbers
 abbrev pub conf_of : ℕ × (ℕ × (ℕ × ℕ)) → Conf
 conf_of x = record { b = x.0; e = x.1.0; qw = x.1.1.0; qa = x.1.1.1 }
 
-abbrev pub conf_from : List ℕ → Result (Conf × List ℕ) Stop
+-- the fields of a configuration
+abbrev pub conf_from : List ℕ → Result (Conf × List ℕ) Fault
 conf_from = map_from conf_of
     (then_from (between_from w8 1 16) (λ b. then_from (between_from w8 1 b) (λ e. then_from (between_from w8 1 e) (λ qw. between_from w8 1 qw))))
 
@@ -65,71 +74,89 @@ conf_from = map_from conf_of
 abbrev pub state_of : ℕ → LedgerState
 state_of code = if code == 1 then Writing else if code == 2 then Recovering else Closed
 
-abbrev pub state_from : List ℕ → Result (LedgerState × List ℕ) Stop
+-- the state of a ledger
+abbrev pub state_from : List ℕ → Result (LedgerState × List ℕ) Fault
 state_from = map_from state_of (between_from w8 1 3)
 
+-- the fields of a ledger, one by one
 abbrev pub ledger_of : LedgerState × (ℕ × (ℕ × (ℕ × ℕ))) → LedgerFields
 ledger_of x = record { state = x.0; e = x.1.0; qw = x.1.1.0; qa = x.1.1.1.0; count = x.1.1.1.1 }
 
-abbrev pub ledger_from : List ℕ → Result (LedgerFields × List ℕ) Stop
+-- the fields of a ledger
+abbrev pub ledger_from : List ℕ → Result (LedgerFields × List ℕ) Fault
 ledger_from = map_from ledger_of
     (then_from state_from (λ state. then_from (between_from w8 1 16) (λ e. then_from (between_from w8 1 e) (λ qw. then_from (between_from w8 1 qw)
     (λ qa. between_from w64 0 (most_count state))))))
 
-abbrev pub in_progress_from : List ℕ → Result (SegmentMeta × List ℕ) Stop
+-- a segment in progress
+abbrev pub in_progress_from : List ℕ → Result (SegmentMeta × List ℕ) Fault
 in_progress_from = map_from (λ x. InProgress x.0 x.1) (then_from (between_from w64 1 ten_nines) (λ segment. between_from w64 0 ten_nines))
 
-abbrev pub completed_from : List ℕ → Result (SegmentMeta × List ℕ) Stop
+-- a complete segment
+abbrev pub completed_from : List ℕ → Result (SegmentMeta × List ℕ) Fault
 completed_from = map_from (λ x. Completed x.0 x.1.0 x.1.1.0 x.1.1.1.0 x.1.1.1.1)
     (then_from (between_from w64 1 ten_nines) (λ segment. then_from (between_from w64 0 ten_nines) (λ ledger. then_from (number_from w64)
-    (λ entries. then_from (number_from w64) (λ rows. between_from w64 0 most_txid)))))
+    (λ entries. then_from (number_from w64) (λ rows. between_from w64 0 MAX_TXID)))))
 
 -- a segment behind its kind, which is 1 while it is in progress, and 2 when it is complete
-abbrev pub kind_from : ℕ → List ℕ → Result (SegmentMeta × List ℕ) Stop
+abbrev pub kind_from : ℕ → List ℕ → Result (SegmentMeta × List ℕ) Fault
 kind_from kind bytes = if kind == 1 then in_progress_from bytes else completed_from bytes
 
-abbrev pub segment_from : List ℕ → Result (SegmentMeta × List ℕ) Stop
+-- a segment
+abbrev pub segment_from : List ℕ → Result (SegmentMeta × List ℕ) Fault
 segment_from = map_from (λ x. x.1) (then_from (between_from w8 1 2) kind_from)
 
+-- the greatest segment of two numbers
 abbrev pub maxseq_of : ℕ × ℕ → MaxSeq
 maxseq_of x = record { segment = x.0; last = x.1 }
 
-abbrev pub maxseq_from : List ℕ → Result (MaxSeq × List ℕ) Stop
-maxseq_from = map_from maxseq_of (then_from (between_from w64 0 ten_nines) (λ segment. between_from w64 0 most_txid))
+-- the fields of a greatest segment
+abbrev pub maxseq_from : List ℕ → Result (MaxSeq × List ℕ) Fault
+maxseq_from = map_from maxseq_of (then_from (between_from w64 0 ten_nines) (λ segment. between_from w64 0 MAX_TXID))
 
+-- the cut of three numbers
 abbrev pub cut_of : ℕ × (ℕ × ℕ) → Cut
 cut_of x = record { point = place x.0 x.1.0 x.1.1 }
 
-abbrev pub cut_from : List ℕ → Result (Cut × List ℕ) Stop
+-- the fields of a cut
+abbrev pub cut_from : List ℕ → Result (Cut × List ℕ) Fault
 cut_from = map_from cut_of
-    (then_from (between_from w64 1 18446744073709551615) (λ segment. then_from (number_from w64) (λ entry. number_from w32)))
+    (then_from (between_from w64 1 max_u64) (λ segment. then_from (number_from w64) (λ entry. number_from w32)))
 
 -- what a flag and a number say of a ledger: without the flag there is none, and the number is 0
 abbrev pub most_allocated : ℕ → ℕ
 most_allocated flag = if flag == 0 then 0 else ten_nines
 
+-- the allocation of a flag and a number
 abbrev pub alloc_of : ℕ × ℕ → Alloc
 alloc_of x = record { ledger = if x.0 == 0 then None else Some x.1 }
 
-abbrev pub alloc_from : List ℕ → Result (Alloc × List ℕ) Stop
+-- the fields of an allocation
+abbrev pub alloc_from : List ℕ → Result (Alloc × List ℕ) Fault
 alloc_from = map_from alloc_of (then_from (between_from w8 0 1) (λ flag. between_from w64 0 (most_allocated flag)))
 
 -- the value that all bytes of a node spell, or the first fault with its place
 
+-- a configuration
 abbrev pub conf_at : List ℕ → Result Conf MetaBytesFault
 conf_at = node_at conf_from
 
+-- the fields of a ledger
 abbrev pub ledger_at : List ℕ → Result LedgerFields MetaBytesFault
 ledger_at = node_at ledger_from
 
+-- a segment
 abbrev pub segment_at : List ℕ → Result SegmentMeta MetaBytesFault
 segment_at = node_at segment_from
 
+-- a greatest segment
 abbrev pub maxseq_at : List ℕ → Result MaxSeq MetaBytesFault
 maxseq_at = node_at maxseq_from
 
+-- a cut
 abbrev pub cut_at : List ℕ → Result Cut MetaBytesFault
 cut_at = node_at cut_from
 
+-- an allocation
 abbrev pub alloc_at : List ℕ → Result Alloc MetaBytesFault
 alloc_at = node_at alloc_from

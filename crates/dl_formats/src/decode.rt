@@ -1,25 +1,25 @@
 //! Readers of the bytes of nodes. Each refuses all bytes but the one spelling of a value, and names the first fault in the
 //! order of the bytes. None takes memory.
 
-ghost use Rattle.std.specs.Prelude.{◌≡◌, Ok, Err, IfOk, IfErr};
+ghost use Rattle.std.specs.Prelude.{◌≡◌};
 ghost use Rattle.dl_types.specs.Quorums.{IsQuorum};
 ghost use Rattle.dl_formats.specs.NodeBytes.{conf_bytes, IsConf, most_count, fields_of, ledger_bytes, IsLedgerMeta, segment_bytes, IsSegmentMeta, maxseq_bytes, IsMaxSeq, cut_bytes, IsCut, alloc_bytes, IsAlloc};
-ghost use Rattle.dl_formats.specs.Reading.{Reads, SpellsNone, conf_from, conf_at, state_from, ledger_from, ledger_at, in_progress_from, completed_from, kind_from, segment_from, segment_at, maxseq_from, maxseq_at, cut_from, cut_at, alloc_from, alloc_at};
+ghost use Rattle.dl_formats.specs.Reading.{Reads, Decodes, conf_from, conf_at, state_from, ledger_from, ledger_at, in_progress_from, completed_from, kind_from, segment_from, segment_at, maxseq_from, maxseq_at, cut_from, cut_at, alloc_from, alloc_at};
 
 use crate::allocation::Alloc;
 use crate::conf::Conf;
 use crate::cut::Cut;
 use crate::fault::MetaBytesFault;
-use crate::fields::{u8_between, u64_between};
+use crate::fields::{read_u8_between, read_u64_between};
 use crate::ledger::{LedgerFields, LedgerMeta, LedgerState};
 use crate::maxseq::MaxSeq;
-use crate::node::{Fields, node_of};
+use crate::node::{Fields, read_node};
 use crate::segment::SegmentMeta;
-use dl_fields::number::{u32_of, u64_of};
-use dl_fields::stop::Stop;
+use dl_fields::fault::Fault;
+use dl_fields::number::{read_u32, read_u64};
 use dl_types::dlsn::Dlsn;
 use dl_types::quorum::Quorum;
-use dl_types::txid::TxId;
+use dl_types::txid::{MAX_TXID, TxId};
 
 /// The greatest number that ten digits spell.
 const TEN_NINES: u64 = 9_999_999_999;
@@ -27,20 +27,20 @@ const TEN_NINES: u64 = 9_999_999_999;
 impl Fields for Conf {
     ghost from = { conf_from };
 
-    fn read(bytes: &[u8]) -> Result<(Conf, &[u8]), Stop> {
-        let (b, rest) = u8_between(1, 16, bytes)?;
-        let (e, rest) = u8_between(1, b, rest)?;
-        let (qw, rest) = u8_between(1, e, rest)?;
-        let (qa, rest) = u8_between(1, qw, rest)?;
+    fn read(bytes: &[u8]) -> Result<(Conf, &[u8]), Fault> {
+        let (b, rest) = read_u8_between(1, 16, bytes)?;
+        let (e, rest) = read_u8_between(1, b, rest)?;
+        let (qw, rest) = read_u8_between(1, e, rest)?;
+        let (qa, rest) = read_u8_between(1, qw, rest)?;
         Ok((Conf { b, e, qw, qa }, rest))
     }
 }
 
 /// The state of a ledger at the front, and the bytes behind it.
-fn state_of(bytes: &[u8]) -> Result<(LedgerState, &[u8]), Stop>
+fn read_state(bytes: &[u8]) -> Result<(LedgerState, &[u8]), Fault>
     ensures { Reads (λ x. (x.0, x.1.now)) result (state_from bytes.now) }
 {
-    let (code, rest) = u8_between(1, 3, bytes)?;
+    let (code, rest) = read_u8_between(1, 3, bytes)?;
     let state = match code {
         1 => LedgerState::Writing,
         2 => LedgerState::Recovering,
@@ -62,12 +62,12 @@ fn most_count(state: LedgerState) -> u64
 impl Fields for LedgerFields {
     ghost from = { ledger_from };
 
-    fn read(bytes: &[u8]) -> Result<(LedgerFields, &[u8]), Stop> {
-        let (state, rest) = state_of(bytes)?;
-        let (e, rest) = u8_between(1, 16, rest)?;
-        let (qw, rest) = u8_between(1, e, rest)?;
-        let (qa, rest) = u8_between(1, qw, rest)?;
-        let (count, rest) = u64_between(0, most_count(state), rest)?;
+    fn read(bytes: &[u8]) -> Result<(LedgerFields, &[u8]), Fault> {
+        let (state, rest) = read_state(bytes)?;
+        let (e, rest) = read_u8_between(1, 16, rest)?;
+        let (qw, rest) = read_u8_between(1, e, rest)?;
+        let (qa, rest) = read_u8_between(1, qw, rest)?;
+        let (count, rest) = read_u64_between(0, most_count(state), rest)?;
         Ok((
             LedgerFields {
                 state,
@@ -82,23 +82,23 @@ impl Fields for LedgerFields {
 }
 
 /// A segment in progress behind its kind.
-fn in_progress_of(bytes: &[u8]) -> Result<(SegmentMeta, &[u8]), Stop>
+fn read_in_progress(bytes: &[u8]) -> Result<(SegmentMeta, &[u8]), Fault>
     ensures { Reads (λ x. (x.0, x.1.now)) result (in_progress_from bytes.now) }
 {
-    let (segment, rest) = u64_between(1, TEN_NINES, bytes)?;
-    let (ledger, rest) = u64_between(0, TEN_NINES, rest)?;
+    let (segment, rest) = read_u64_between(1, TEN_NINES, bytes)?;
+    let (ledger, rest) = read_u64_between(0, TEN_NINES, rest)?;
     Ok((SegmentMeta::InProgress { segment, ledger }, rest))
 }
 
 /// A complete segment behind its kind.
-fn completed_of(bytes: &[u8]) -> Result<(SegmentMeta, &[u8]), Stop>
+fn read_completed(bytes: &[u8]) -> Result<(SegmentMeta, &[u8]), Fault>
     ensures { Reads (λ x. (x.0, x.1.now)) result (completed_from bytes.now) }
 {
-    let (segment, rest) = u64_between(1, TEN_NINES, bytes)?;
-    let (ledger, rest) = u64_between(0, TEN_NINES, rest)?;
-    let (entries, rest) = u64_of(rest)?;
-    let (rows, rest) = u64_of(rest)?;
-    let (last, rest) = u64_between(0, TxId::MAX, rest)?;
+    let (segment, rest) = read_u64_between(1, TEN_NINES, bytes)?;
+    let (ledger, rest) = read_u64_between(0, TEN_NINES, rest)?;
+    let (entries, rest) = read_u64(rest)?;
+    let (rows, rest) = read_u64(rest)?;
+    let (last, rest) = read_u64_between(0, MAX_TXID, rest)?;
     let last = TxId::new(last);
     Ok((
         SegmentMeta::Completed {
@@ -115,12 +115,12 @@ fn completed_of(bytes: &[u8]) -> Result<(SegmentMeta, &[u8]), Stop>
 impl Fields for SegmentMeta {
     ghost from = { segment_from };
 
-    fn read(bytes: &[u8]) -> Result<(SegmentMeta, &[u8]), Stop> {
-        let (kind, rest) = u8_between(1, 2, bytes)?;
+    fn read(bytes: &[u8]) -> Result<(SegmentMeta, &[u8]), Fault> {
+        let (kind, rest) = read_u8_between(1, 2, bytes)?;
         if kind == 1 {
-            in_progress_of(rest)
+            read_in_progress(rest)
         } else {
-            completed_of(rest)
+            read_completed(rest)
         }
     }
 }
@@ -128,9 +128,9 @@ impl Fields for SegmentMeta {
 impl Fields for MaxSeq {
     ghost from = { maxseq_from };
 
-    fn read(bytes: &[u8]) -> Result<(MaxSeq, &[u8]), Stop> {
-        let (segment, rest) = u64_between(0, TEN_NINES, bytes)?;
-        let (last, rest) = u64_between(0, TxId::MAX, rest)?;
+    fn read(bytes: &[u8]) -> Result<(MaxSeq, &[u8]), Fault> {
+        let (segment, rest) = read_u64_between(0, TEN_NINES, bytes)?;
+        let (last, rest) = read_u64_between(0, MAX_TXID, rest)?;
         let last = TxId::new(last);
         Ok((MaxSeq { segment, last }, rest))
     }
@@ -139,10 +139,10 @@ impl Fields for MaxSeq {
 impl Fields for Cut {
     ghost from = { cut_from };
 
-    fn read(bytes: &[u8]) -> Result<(Cut, &[u8]), Stop> {
-        let (segment, rest) = u64_between(1, u64::MAX, bytes)?;
-        let (entry, rest) = u64_of(rest)?;
-        let (slot, rest) = u32_of(rest)?;
+    fn read(bytes: &[u8]) -> Result<(Cut, &[u8]), Fault> {
+        let (segment, rest) = read_u64_between(1, u64::MAX, bytes)?;
+        let (entry, rest) = read_u64(rest)?;
+        let (slot, rest) = read_u32(rest)?;
         let point = Dlsn {
             segment,
             entry,
@@ -155,10 +155,10 @@ impl Fields for Cut {
 impl Fields for Alloc {
     ghost from = { alloc_from };
 
-    fn read(bytes: &[u8]) -> Result<(Alloc, &[u8]), Stop> {
-        let (flag, rest) = u8_between(0, 1, bytes)?;
+    fn read(bytes: &[u8]) -> Result<(Alloc, &[u8]), Fault> {
+        let (flag, rest) = read_u8_between(0, 1, bytes)?;
         let most = if flag == 0 { 0 } else { TEN_NINES };
-        let (ledger, rest) = u64_between(0, most, rest)?;
+        let (ledger, rest) = read_u64_between(0, most, rest)?;
         let ledger = if flag == 0 { None } else { Some(ledger) };
         Ok((Alloc { ledger }, rest))
     }
@@ -166,14 +166,9 @@ impl Fields for Alloc {
 
 /// The configuration that the bytes of `/conf` spell.
 pub fn decode_conf(bytes: &[u8]) -> Result<Conf, MetaBytesFault>
-    // What is read has this spelling.
-    ensures found { IfOk result (λ x. IsConf x × (bytes.now ≡ conf_bytes x)) }
-    // What is spelt so is read.
-    ensures only { (x : Conf) → IsConf x → bytes.now ≡ conf_bytes x → result ≡ Ok x }
-    // The first fault is named, and what is refused spells nothing.
-    ensures refused { IfErr result (λ fault. (conf_at bytes.now ≡ Err fault) × SpellsNone IsConf conf_bytes bytes.now) }
+    ensures { Decodes IsConf conf_bytes conf_at bytes.now result }
 {
-    node_of::<Conf>(bytes)
+    read_node::<Conf>(bytes)
 }
 
 /// The metadata of these fields.
@@ -197,11 +192,9 @@ fn ledger_with(fields: LedgerFields) -> LedgerMeta
 
 /// The metadata that the bytes of a ledger's node spell.
 pub fn decode_ledger(bytes: &[u8]) -> Result<LedgerMeta, MetaBytesFault>
-    ensures found { IfOk result (λ x. IsLedgerMeta x × (bytes.now ≡ ledger_bytes x)) }
-    ensures only { (x : LedgerMeta) → IsLedgerMeta x → bytes.now ≡ ledger_bytes x → result ≡ Ok x }
-    ensures refused { IfErr result (λ fault. (ledger_at bytes.now ≡ Err fault) × SpellsNone IsLedgerMeta ledger_bytes bytes.now) }
+    ensures { Decodes IsLedgerMeta ledger_bytes ledger_at bytes.now result }
 {
-    match node_of::<LedgerFields>(bytes) {
+    match read_node::<LedgerFields>(bytes) {
         Ok(fields) => Ok(ledger_with(fields)),
         Err(fault) => Err(fault),
     }
@@ -209,36 +202,28 @@ pub fn decode_ledger(bytes: &[u8]) -> Result<LedgerMeta, MetaBytesFault>
 
 /// The segment that the bytes of a segment's node spell.
 pub fn decode_segment(bytes: &[u8]) -> Result<SegmentMeta, MetaBytesFault>
-    ensures found { IfOk result (λ x. IsSegmentMeta x × (bytes.now ≡ segment_bytes x)) }
-    ensures only { (x : SegmentMeta) → IsSegmentMeta x → bytes.now ≡ segment_bytes x → result ≡ Ok x }
-    ensures refused { IfErr result (λ fault. (segment_at bytes.now ≡ Err fault) × SpellsNone IsSegmentMeta segment_bytes bytes.now) }
+    ensures { Decodes IsSegmentMeta segment_bytes segment_at bytes.now result }
 {
-    node_of::<SegmentMeta>(bytes)
+    read_node::<SegmentMeta>(bytes)
 }
 
 /// What the bytes of a stream's node `maxseq` spell.
 pub fn decode_maxseq(bytes: &[u8]) -> Result<MaxSeq, MetaBytesFault>
-    ensures found { IfOk result (λ x. IsMaxSeq x × (bytes.now ≡ maxseq_bytes x)) }
-    ensures only { (x : MaxSeq) → IsMaxSeq x → bytes.now ≡ maxseq_bytes x → result ≡ Ok x }
-    ensures refused { IfErr result (λ fault. (maxseq_at bytes.now ≡ Err fault) × SpellsNone IsMaxSeq maxseq_bytes bytes.now) }
+    ensures { Decodes IsMaxSeq maxseq_bytes maxseq_at bytes.now result }
 {
-    node_of::<MaxSeq>(bytes)
+    read_node::<MaxSeq>(bytes)
 }
 
 /// The place that the bytes of a stream's node `cut` spell.
 pub fn decode_cut(bytes: &[u8]) -> Result<Cut, MetaBytesFault>
-    ensures found { IfOk result (λ x. IsCut x × (bytes.now ≡ cut_bytes x)) }
-    ensures only { (x : Cut) → IsCut x → bytes.now ≡ cut_bytes x → result ≡ Ok x }
-    ensures refused { IfErr result (λ fault. (cut_at bytes.now ≡ Err fault) × SpellsNone IsCut cut_bytes bytes.now) }
+    ensures { Decodes IsCut cut_bytes cut_at bytes.now result }
 {
-    node_of::<Cut>(bytes)
+    read_node::<Cut>(bytes)
 }
 
 /// The ledger, or none, that the bytes of a stream's node `alloc` spell.
 pub fn decode_alloc(bytes: &[u8]) -> Result<Alloc, MetaBytesFault>
-    ensures found { IfOk result (λ x. IsAlloc x × (bytes.now ≡ alloc_bytes x)) }
-    ensures only { (x : Alloc) → IsAlloc x → bytes.now ≡ alloc_bytes x → result ≡ Ok x }
-    ensures refused { IfErr result (λ fault. (alloc_at bytes.now ≡ Err fault) × SpellsNone IsAlloc alloc_bytes bytes.now) }
+    ensures { Decodes IsAlloc alloc_bytes alloc_at bytes.now result }
 {
-    node_of::<Alloc>(bytes)
+    read_node::<Alloc>(bytes)
 }

@@ -57,7 +57,8 @@ pub fn encode_ledger(alloc: Global, value: &LedgerMeta) -> Result<Vec<u8>, NoMem
 
 /// Bytes with the version, the kind, the segment and its ledger, with which those of both kinds of segments begin.
 fn segment_head(alloc: Global, kind: u8, segment: u64, ledger: u64) -> Result<Vec<u8>, NoMemory>
-    ensures { IfOk result (λ bytes. bytes.items ≡ field w8 1 ++ (field w8 kind ++ (field w64 segment ++ field w64 ledger))) }
+    ensures { IfOk result (λ bytes. bytes.items ≡ field w8 1 ++ (field w8 kind ++ (field w64 segment
+        ++ field w64 ledger))) }
 {
     let mut out = Vec::new(alloc);
     put_u8(alloc, &mut out, 1)?;

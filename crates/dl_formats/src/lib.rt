@@ -6,7 +6,6 @@ pub mod children;
 pub mod conf;
 pub mod cut;
 pub mod decode;
-mod digits;
 pub mod encode;
 pub mod fault;
 mod fields;

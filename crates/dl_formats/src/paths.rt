@@ -1,10 +1,10 @@
 //! The paths of nodes, from what they are for.
 
 ghost use Rattle.std.specs.Prelude.{◌≡◌, ◌≤◌, ◌++◌, IfOk};
-ghost use Rattle.dl_formats.specs.Digits.{digits};
+ghost use Rattle.dl_fields.specs.Digits.{digits};
 ghost use Rattle.dl_formats.specs.Keys.{Conf, Ledger, Stream, MaxSeq, Cut, Alloc, Locks, Segs, Progress, Completed, path_of, ledger_stem, member_stem};
 
-use crate::digits::put_digits;
+use dl_fields::digits::put_digits;
 use dl_types::memory::NoMemory;
 use dl_types::name::Name;
 use dl_types::path::Path;
@@ -22,7 +22,7 @@ fn stream_bytes(alloc: Global, stream: &Name, more: &[u8]) -> Result<Vec<u8>, No
 }
 
 /// A stream's path, with more behind it.
-fn in_stream(alloc: Global, stream: &Name, more: &[u8]) -> Result<Path, NoMemory>
+fn path_in_stream(alloc: Global, stream: &Name, more: &[u8]) -> Result<Path, NoMemory>
     ensures { IfOk result (λ path. path ≡ path_of (Stream stream.now) ++ more.now) }
 {
     let bytes = stream_bytes(alloc, stream, more)?;
@@ -30,7 +30,7 @@ fn in_stream(alloc: Global, stream: &Name, more: &[u8]) -> Result<Path, NoMemory
 }
 
 /// A stream's path, with more behind it, and then the ten digits of a number.
-fn numbered(alloc: Global, stream: &Name, more: &[u8], number: u64) -> Result<Path, NoMemory>
+fn numbered_path(alloc: Global, stream: &Name, more: &[u8], number: u64) -> Result<Path, NoMemory>
     ensures { IfOk result (λ path. path ≡ (path_of (Stream stream.now) ++ more.now) ++ digits 10 number) }
 {
     let mut bytes = stream_bytes(alloc, stream, more)?;
@@ -67,49 +67,49 @@ pub fn ledger_path(alloc: Global, ledger: u64) -> Result<Path, NoMemory>
 pub fn stream_path(alloc: Global, stream: &Name) -> Result<Path, NoMemory>
     ensures { IfOk result (λ path. path ≡ path_of (Stream stream.now)) }
 {
-    in_stream(alloc, stream, b"")
+    path_in_stream(alloc, stream, b"")
 }
 
 /// The path of a stream's node `lock`, whose children are the members that wait for its lock.
 pub fn lock_path(alloc: Global, stream: &Name) -> Result<Path, NoMemory>
     ensures { IfOk result (λ path. path ≡ path_of (Locks stream.now)) }
 {
-    in_stream(alloc, stream, b"/lock")
+    path_in_stream(alloc, stream, b"/lock")
 }
 
 /// The path of `m-` below a stream's node `lock`, to which a counted create adds the ten digits of a new member.
 pub fn member_stem(alloc: Global, stream: &Name) -> Result<Path, NoMemory>
     ensures { IfOk result (λ path. path ≡ member_stem stream.now) }
 {
-    in_stream(alloc, stream, b"/lock/m-")
+    path_in_stream(alloc, stream, b"/lock/m-")
 }
 
 /// The path of a stream's node `segs`, whose children are its segments.
 pub fn segs_path(alloc: Global, stream: &Name) -> Result<Path, NoMemory>
     ensures { IfOk result (λ path. path ≡ path_of (Segs stream.now)) }
 {
-    in_stream(alloc, stream, b"/segs")
+    path_in_stream(alloc, stream, b"/segs")
 }
 
 /// The path of a stream's node `maxseq`.
 pub fn maxseq_path(alloc: Global, stream: &Name) -> Result<Path, NoMemory>
     ensures { IfOk result (λ path. path ≡ path_of (MaxSeq stream.now)) }
 {
-    in_stream(alloc, stream, b"/maxseq")
+    path_in_stream(alloc, stream, b"/maxseq")
 }
 
 /// The path of a stream's node `cut`.
 pub fn cut_path(alloc: Global, stream: &Name) -> Result<Path, NoMemory>
     ensures { IfOk result (λ path. path ≡ path_of (Cut stream.now)) }
 {
-    in_stream(alloc, stream, b"/cut")
+    path_in_stream(alloc, stream, b"/cut")
 }
 
 /// The path of a stream's node `alloc`.
 pub fn alloc_path(alloc: Global, stream: &Name) -> Result<Path, NoMemory>
     ensures { IfOk result (λ path. path ≡ path_of (Alloc stream.now)) }
 {
-    in_stream(alloc, stream, b"/alloc")
+    path_in_stream(alloc, stream, b"/alloc")
 }
 
 /// The path of a stream's segment while it is in progress.
@@ -117,7 +117,7 @@ pub fn progress_path(alloc: Global, stream: &Name, segment: u64) -> Result<Path,
     requires { segment ≤ 9999999999 }
     ensures { IfOk result (λ path. path ≡ path_of (Progress stream.now segment)) }
 {
-    numbered(alloc, stream, b"/segs/p", segment)
+    numbered_path(alloc, stream, b"/segs/p", segment)
 }
 
 /// The path of a stream's segment once it is complete.
@@ -125,5 +125,5 @@ pub fn completed_path(alloc: Global, stream: &Name, segment: u64) -> Result<Path
     requires { segment ≤ 9999999999 }
     ensures { IfOk result (λ path. path ≡ path_of (Completed stream.now segment)) }
 {
-    numbered(alloc, stream, b"/segs/c", segment)
+    numbered_path(alloc, stream, b"/segs/c", segment)
 }

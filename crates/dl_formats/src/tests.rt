@@ -1,9 +1,7 @@
-mod rows;
-
 ghost use Rattle.dl_formats.specs.NodeBytes.{IsBetween, most_count};
 
 use crate::allocation::Alloc;
-use crate::children::{member_of, segment_of};
+use crate::children::{read_member, read_segment};
 use crate::conf::Conf;
 use crate::cut::Cut;
 use crate::decode::{
@@ -30,13 +28,45 @@ use dl_types::memory::NoMemory;
 use dl_types::name::Name;
 use dl_types::path::Path;
 use dl_types::quorum::Quorum;
-use dl_types::txid::TxId;
+use dl_types::txid::{MAX_TXID, TxId};
 use std::alloc::Global;
 use std::test::Fail;
 
+/// The bytes of `/conf`.
+static CONF: [u8; 5] = [1, 16, 3, 3, 2];
+
+/// The bytes of a closed ledger.
+static CLOSED: [u8; 13] = [1, 3, 3, 3, 2, 0, 0, 0, 0, 0, 0, 0, 8];
+
+/// The bytes of a ledger that is written.
+static WRITING: [u8; 13] = [1, 1, 5, 3, 2, 0, 0, 0, 0, 0, 0, 0, 0];
+
+/// The bytes of a segment in progress.
+static IN_PROGRESS: [u8; 18] = [1, 1, 0, 0, 0, 0, 0, 0, 0, 12, 0, 0, 0, 2, 84, 11, 227, 255];
+
+/// The bytes of a complete segment.
+static COMPLETED: [u8; 42] = [
+    1, 2, 0, 0, 0, 2, 84, 11, 227, 255, 0, 0, 0, 0, 0, 0, 0, 7, 0, 0, 1, 0, 0, 0, 0, 0, 0, 0, 2, 0,
+    0, 0, 0, 0, 127, 255, 255, 255, 255, 255, 255, 255,
+];
+
+/// The bytes of a greatest segment.
+static MAXSEQ: [u8; 17] = [1, 0, 0, 0, 0, 0, 0, 0, 12, 0, 0, 0, 0, 0, 0, 0, 77];
+
+/// The bytes of a cut.
+static CUT: [u8; 21] = [
+    1, 0, 0, 0, 0, 0, 0, 0, 1, 0, 0, 0, 0, 0, 0, 0, 0, 0, 0, 0, 0,
+];
+
+/// The bytes of no allocated ledger.
+static NONE: [u8; 10] = [1, 0, 0, 0, 0, 0, 0, 0, 0, 0];
+
+/// The bytes of an allocated ledger.
+static SOME: [u8; 10] = [1, 1, 0, 0, 0, 0, 0, 0, 0, 7];
+
 #[test]
 fn reads_where_a_stream_is_cut_off(rt: HostRuntime) -> Result<(), Fail> {
-    let mut bytes = rows::CUT.to_vec(rt.alloc())?;
+    let mut bytes = CUT.to_vec(rt.alloc())?;
     match decode_cut(&bytes) {
         Ok(cut) => {
             assert_eq!(rt; cut.point.segment, 1);
@@ -78,7 +108,7 @@ fn encoded(alloc: Global, place: u8) -> Result<Vec<u8>, NoMemory> {
                 ledger: 7,
                 entries: 1_099_511_627_776,
                 rows: 2_199_023_255_552,
-                last: TxId::new(TxId::MAX),
+                last: TxId::new(MAX_TXID),
             },
         ),
         5 => encode_maxseq(
@@ -103,6 +133,7 @@ fn encoded(alloc: Global, place: u8) -> Result<Vec<u8>, NoMemory> {
     }
 }
 
+/// The bytes of a ledger.
 fn encoded_ledger(alloc: Global, state: LedgerState, e: u8, count: u64) -> Result<Vec<u8>, NoMemory>
     requires { IsBetween 0 (most_count state) count }
 {
@@ -115,15 +146,15 @@ fn encoded_ledger(alloc: Global, state: LedgerState, e: u8, count: u64) -> Resul
 /// The rows in their order.
 fn row(place: u8) -> &'static [u8] {
     match place {
-        0 => &rows::CONF,
-        1 => &rows::CLOSED,
-        2 => &rows::WRITING,
-        3 => &rows::IN_PROGRESS,
-        4 => &rows::COMPLETED,
-        5 => &rows::MAXSEQ,
-        6 => &rows::CUT,
-        7 => &rows::NONE,
-        _ => &rows::SOME,
+        0 => &CONF,
+        1 => &CLOSED,
+        2 => &WRITING,
+        3 => &IN_PROGRESS,
+        4 => &COMPLETED,
+        5 => &MAXSEQ,
+        6 => &CUT,
+        7 => &NONE,
+        _ => &SOME,
     }
 }
 
@@ -136,178 +167,33 @@ fn writes_each_row(rt: HostRuntime) -> Result<(), Fail> {
     Ok(())
 }
 
-/// A kind of node.
-#[derive(Clone, Copy)]
-enum Kind {
-    Conf,
-    Ledger,
-    Segment,
-    MaxSeq,
-    Cut,
-    Alloc,
-}
-
-/// A letter for the fault that is found, or `O` for none, and its place.
-fn outcome(kind: Kind, bytes: &[u8]) -> (u8, usize) {
-    let fault = match kind {
-        Kind::Conf => decode_conf(bytes).err(),
-        Kind::Ledger => decode_ledger(bytes).err(),
-        Kind::Segment => decode_segment(bytes).err(),
-        Kind::MaxSeq => decode_maxseq(bytes).err(),
-        Kind::Cut => decode_cut(bytes).err(),
-        Kind::Alloc => decode_alloc(bytes).err(),
-    };
-    match fault {
-        None => (b'O', 0),
-        Some(MetaBytesFault::BadVersion { at }) => (b'V', at),
-        Some(MetaBytesFault::BadKind { at }) => (b'K', at),
-        Some(MetaBytesFault::Short { at }) => (b'S', at),
-        Some(MetaBytesFault::Long { at }) => (b'L', at),
-    }
-}
-
-/// Whether this is found in a row that is cut off at every place, and with one byte more.
-fn cut_finds(
-    alloc: Global,
-    kind: Kind,
-    row: &[u8],
-    expected: &[(u8, usize)],
-) -> Result<bool, NoMemory> {
-    let mut longer = row.to_vec(alloc)?;
-    longer.push(0)?;
-    let mut size = 0usize;
-    for there in expected {
-        match longer.get(..size) {
-            Some(bytes) if outcome(kind, bytes) == *there => {}
-            _ => return Ok(false),
-        }
-        size = size.saturating_add(1);
-    }
-    Ok(true)
-}
-
-/// Whether this is found in a row where these bits are turned in each byte in turn.
-fn spoilt_finds(
-    alloc: Global,
-    kind: Kind,
-    row: &[u8],
-    bits: u8,
-    expected: &[(u8, usize)],
-) -> Result<bool, NoMemory> {
-    let mut place = 0usize;
-    for there in expected {
-        let mut bytes = row.to_vec(alloc)?;
-        if let Some(byte) = bytes.get_mut(place) {
-            *byte ^= bits;
-        }
-        if outcome(kind, &bytes) != *there {
-            return Ok(false);
-        }
-        place = place.saturating_add(1);
-    }
-    Ok(true)
-}
-
-/// Whether this is found in a row that is cut off, and where its bytes are spoilt.
-fn row_finds(
-    alloc: Global,
-    kind: Kind,
-    row: &[u8],
-    sizes: &[(u8, usize)],
-    ones: &[(u8, usize)],
-    highs: &[(u8, usize)],
-) -> Result<bool, NoMemory> {
-    Ok(
-        cut_finds(alloc, kind, row, sizes)?
-            && spoilt_finds(alloc, kind, row, 1, ones)?
-            && spoilt_finds(alloc, kind, row, 128, highs)?,
-    )
-}
-
-/// Whether all is found of the row at a place.
-fn finds(alloc: Global, place: u8) -> Result<bool, NoMemory> {
-    match place {
-        0 => row_finds(
-            alloc,
-            Kind::Conf,
-            &rows::CONF,
-            &rows::CONF_SIZES,
-            &rows::CONF_ONES,
-            &rows::CONF_HIGHS,
-        ),
-        1 => row_finds(
-            alloc,
-            Kind::Ledger,
-            &rows::CLOSED,
-            &rows::CLOSED_SIZES,
-            &rows::CLOSED_ONES,
-            &rows::CLOSED_HIGHS,
-        ),
-        2 => row_finds(
-            alloc,
-            Kind::Ledger,
-            &rows::WRITING,
-            &rows::WRITING_SIZES,
-            &rows::WRITING_ONES,
-            &rows::WRITING_HIGHS,
-        ),
-        3 => row_finds(
-            alloc,
-            Kind::Segment,
-            &rows::IN_PROGRESS,
-            &rows::IN_PROGRESS_SIZES,
-            &rows::IN_PROGRESS_ONES,
-            &rows::IN_PROGRESS_HIGHS,
-        ),
-        4 => row_finds(
-            alloc,
-            Kind::Segment,
-            &rows::COMPLETED,
-            &rows::COMPLETED_SIZES,
-            &rows::COMPLETED_ONES,
-            &rows::COMPLETED_HIGHS,
-        ),
-        5 => row_finds(
-            alloc,
-            Kind::MaxSeq,
-            &rows::MAXSEQ,
-            &rows::MAXSEQ_SIZES,
-            &rows::MAXSEQ_ONES,
-            &rows::MAXSEQ_HIGHS,
-        ),
-        6 => row_finds(
-            alloc,
-            Kind::Cut,
-            &rows::CUT,
-            &rows::CUT_SIZES,
-            &rows::CUT_ONES,
-            &rows::CUT_HIGHS,
-        ),
-        7 => row_finds(
-            alloc,
-            Kind::Alloc,
-            &rows::NONE,
-            &rows::NONE_SIZES,
-            &rows::NONE_ONES,
-            &rows::NONE_HIGHS,
-        ),
-        _ => row_finds(
-            alloc,
-            Kind::Alloc,
-            &rows::SOME,
-            &rows::SOME_SIZES,
-            &rows::SOME_ONES,
-            &rows::SOME_HIGHS,
-        ),
-    }
-}
-
 #[test]
 fn finds_the_first_fault(rt: HostRuntime) -> Result<(), Fail> {
-    for place in 0u8..9 {
-        let found = finds(rt.alloc(), place)?;
-        assert!(rt; found, "row {place}");
-    }
+    assert_eq!(rt; decode_conf(&[]), Err(MetaBytesFault::Short { at: 0 }));
+    assert_eq!(rt;
+        decode_conf(&[2, 3, 3, 3, 2]),
+        Err(MetaBytesFault::BadVersion { at: 0 })
+    );
+    assert_eq!(rt;
+        decode_conf(&[1, 3, 4, 3, 2]),
+        Err(MetaBytesFault::BadKind { at: 2 })
+    );
+    assert_eq!(rt;
+        decode_conf(&[1, 3, 3, 3]),
+        Err(MetaBytesFault::Short { at: 4 })
+    );
+    assert_eq!(rt;
+        decode_conf(&[1, 3, 3, 3, 2, 0]),
+        Err(MetaBytesFault::Long { at: 5 })
+    );
+    assert_eq!(rt;
+        decode_alloc(&[1, 2]),
+        Err(MetaBytesFault::BadKind { at: 1 })
+    );
+    assert_eq!(rt; decode_segment(&IN_PROGRESS).is_ok(), true);
+    assert_eq!(rt; decode_segment(&COMPLETED).is_ok(), true);
+    assert_eq!(rt; decode_maxseq(&MAXSEQ).is_ok(), true);
+    assert_eq!(rt; decode_ledger(&CLOSED).is_ok(), true);
     Ok(())
 }
 
@@ -359,7 +245,7 @@ fn makes_each_path(rt: HostRuntime) -> Result<(), Fail> {
 
 /// A letter and a number for what a name says of a segment.
 fn segment_said(name: &[u8]) -> (u8, u64) {
-    match segment_of(name) {
+    match read_segment(name) {
         Some(SegmentName::Progress { segment }) => (b'p', segment),
         Some(SegmentName::Completed { segment }) => (b'c', segment),
         None => (b'-', 0),
@@ -377,8 +263,8 @@ fn reads_the_names_of_segments(rt: HostRuntime) -> Result<(), Fail> {
 
 #[test]
 fn reads_the_names_of_members(rt: HostRuntime) -> Result<(), Fail> {
-    assert_eq!(rt; member_of(b"m-0000000000"), Some(0));
-    assert_eq!(rt; member_of(b"m-00000000x0"), None);
+    assert_eq!(rt; read_member(b"m-0000000000"), Some(0));
+    assert_eq!(rt; read_member(b"m-00000000x0"), None);
     Ok(())
 }
 

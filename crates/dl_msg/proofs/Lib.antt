@@ -1,6 +1,2 @@
-pub mod SizeLemmas
-pub mod ItemLemmas
 pub mod KindLemmas
-pub mod OpLemmas
-pub mod AnswerLemmas
 pub mod MsgLemmas

@@ -2,27 +2,32 @@
 use Rattle.std.proofs.Common.{◌≡◌, ℕ, Bool, true, false, List, length, Ok, Err, refl, sym, ap, ◌∙◌}
 use Rattle.std.specs.Int.{w32, w64}
 use Rattle.dl_codec.specs.Fields.{IsBytes}
-use Rattle.dl_fields.specs.declared.stop.Stop.{Stop}
-use Rattle.dl_fields.specs.Readers.{whole_from, IsWithin, Exact}
+use Rattle.dl_fields.specs.declared.fault.Fault.{Fault}
+use Rattle.dl_fields.specs.Readers.{Exact}
 use Rattle.dl_fields.specs.Fields.{Fits, IsCounted}
-use Rattle.dl_fields.proofs.ReaderLemmas.{made_exact, whole_found, whole_again, whole_refused, whole_within}
+use Rattle.dl_fields.proofs.ReaderLemmas.{made_exact, whole_found, whole_again, whole_refused}
 use Rattle.dl_fields.proofs.FieldLemmas.{u32_exact, u64_exact, run32_exact}
 use Rattle.dl_types.specs.declared.meta_op.MetaOp.{MetaOp}
 use Rattle.dl_types.specs.declared.meta_answer.MetaAnswer.{MetaAnswer}
 use Rattle.dl_msg.specs.declared.kind.MsgKind.{MsgKind}
 use Rattle.dl_msg.specs.declared.kind.MsgKind.TheVariants as kind
-use Rattle.dl_msg.specs.declared.lack.Lack.{Lack}
+use Rattle.dl_msg.specs.declared.resource.Resource.{Resource}
 use Rattle.dl_msg.specs.declared.meta_reply.MetaReply.{MetaReply}
 use Rattle.dl_msg.specs.declared.meta_reply.MetaReply.TheVariants as reply
 use Rattle.dl_msg.specs.declared.msg.Msg.{Msg}
 use Rattle.dl_msg.specs.declared.msg.Msg.TheVariants as msg
-use Rattle.dl_msg.specs.Operations.{IsRequest}
-use Rattle.dl_msg.specs.Answers.{IsOutcome}
+use Rattle.dl_tree_msg.specs.Requests.{IsRequest, request_bytes}
+use Rattle.dl_tree_msg.specs.RequestReading.{request_from}
+use Rattle.dl_tree_msg.specs.declared.rule.PathRule.TheVariants.{All}
+use Rattle.dl_tree_msg.specs.Rules.{allows}
+use Rattle.dl_tree_msg.specs.Answers.{IsOutcome}
 use Rattle.dl_msg.specs.Messages.{was_run, reply_rest, reply_bytes, IsReply, msg_kind, msg_rest, msg_bytes, IsMsg}
-use Rattle.dl_msg.specs.Reading.{add_from, copy_from, ask_lac_from, ask_entry_from, add_ok_from, add_fenced_from, full_from, copy_ok_from, lac_is_from, entry_is_from, no_entry_from, meta_ask_from, reply_rest_from, reply_from, meta_reply_from, msg_rest_from, msg_from, placed, at_place, msg_at}
-use Rattle.dl_msg.proofs.KindLemmas.{also_exact, nothing_exact, kinded_exact, msg_kind_exact, lack_exact, flag_exact}
-use Rattle.dl_msg.proofs.OpLemmas.{request_exact}
-use Rattle.dl_msg.proofs.AnswerLemmas.{outcome_exact}
+use Rattle.dl_msg.specs.Reading.{add_from, copy_from, ask_lac_from, ask_entry_from, add_ok_from, add_fenced_from, full_from, copy_ok_from, lac_is_from, entry_is_from, no_entry_from, meta_ask_from, reply_rest_from, reply_from, meta_reply_from, msg_rest_from, msg_from, msg_at, SpellsNone}
+use Rattle.dl_fields.proofs.KindLemmas.{also_exact, nothing_exact, kinded_exact, flag_exact}
+use Rattle.dl_msg.proofs.KindLemmas.{msg_kind_exact, resource_exact}
+use Rattle.dl_tree_msg.proofs.RequestLemmas.{request_exact, all_allowed}
+use Rattle.dl_fields.proofs.PathLemmas.{exact_as}
+use Rattle.dl_tree_msg.proofs.AnswerLemmas.{outcome_exact}
 
 -- ---- the reply to a request
 
@@ -30,6 +35,7 @@ use Rattle.dl_msg.proofs.AnswerLemmas.{outcome_exact}
 abbrev IsReplyOf : Bool → MetaReply → Type 0
 IsReplyOf b r = IsReply r × (was_run r ≡ b)
 
+-- a reply behind its flag
 reply_rest_exact : (b : Bool) → Exact (IsReplyOf b) reply_rest (reply_rest_from b)
 reply_rest_exact false = nothing_exact reply.Expired (IsReplyOf false) reply_rest (tt, refl) refl from
   where
@@ -42,6 +48,7 @@ reply_rest_exact true = made_exact _ _ _ reply.Answer (IsReplyOf true) reply_res
     from reply.Expired w = absurd (let e : false ≡ true = w.1 in cc)
     from (reply.Answer a) w = (a, w.0, refl)
 
+-- a reply
 reply_exact : Exact IsReply reply_bytes reply_from
 reply_exact = kinded_exact was_run IsReply reply_rest reply_rest_from flag_exact reply_rest_exact
 
@@ -51,6 +58,7 @@ reply_exact = kinded_exact was_run IsReply reply_rest reply_rest_from flag_exact
 abbrev IsMsgOf : MsgKind → Msg → Type 0
 IsMsgOf k m = IsMsg m × (msg_kind m ≡ k)
 
+-- the message of this kind
 add_exact : Exact (IsMsgOf kind.Add) msg_rest add_from
 add_exact = made_exact _ _ _ (λ x. msg.Add x.0 x.1.0 x.1.1.0 x.1.1.1) (IsMsgOf kind.Add) msg_rest (also_exact u64_exact (also_exact u64_exact (also_exact u64_exact run32_exact))) (λ x v. ((v, refl), refl)) from
   where
@@ -58,6 +66,7 @@ add_exact = made_exact _ _ _ (λ x. msg.Add x.0 x.1.0 x.1.1.0 x.1.1.1) (IsMsgOf 
     from (msg.Add ledger entry count bytes) w = ((ledger, (entry, (count, bytes))), w.0, refl)
     from _ w = absurd (let e = w.1 in cc)
 
+-- the message of this kind
 copy_exact : Exact (IsMsgOf kind.Copy) msg_rest copy_from
 copy_exact = made_exact _ _ _ (λ x. msg.Copy x.0 x.1.0 x.1.1.0 x.1.1.1.0 x.1.1.1.1) (IsMsgOf kind.Copy) msg_rest (also_exact u32_exact (also_exact u64_exact (also_exact u64_exact (also_exact u64_exact run32_exact)))) (λ x v. ((v, refl), refl)) from
   where
@@ -65,6 +74,7 @@ copy_exact = made_exact _ _ _ (λ x. msg.Copy x.0 x.1.0 x.1.1.0 x.1.1.1.0 x.1.1.
     from (msg.Copy tag ledger entry count bytes) w = ((tag, (ledger, (entry, (count, bytes)))), w.0, refl)
     from _ w = absurd (let e = w.1 in cc)
 
+-- the message of this kind
 ask_lac_exact : Exact (IsMsgOf kind.AskLac) msg_rest ask_lac_from
 ask_lac_exact = made_exact _ _ _ (λ x. msg.AskLac x.0 x.1.0 x.1.1) (IsMsgOf kind.AskLac) msg_rest (also_exact u32_exact (also_exact u64_exact flag_exact)) (λ x v. (((v.0, v.1.0), refl), refl)) from
   where
@@ -72,6 +82,7 @@ ask_lac_exact = made_exact _ _ _ (λ x. msg.AskLac x.0 x.1.0 x.1.1) (IsMsgOf kin
     from (msg.AskLac tag ledger fence) w = ((tag, (ledger, fence)), (w.0.0, (w.0.1, tt)), refl)
     from _ w = absurd (let e = w.1 in cc)
 
+-- the message of this kind
 ask_entry_exact : Exact (IsMsgOf kind.AskEntry) msg_rest ask_entry_from
 ask_entry_exact = made_exact _ _ _ (λ x. msg.AskEntry x.0 x.1.0 x.1.1) (IsMsgOf kind.AskEntry) msg_rest (also_exact u32_exact (also_exact u64_exact u64_exact)) (λ x v. ((v, refl), refl)) from
   where
@@ -79,6 +90,7 @@ ask_entry_exact = made_exact _ _ _ (λ x. msg.AskEntry x.0 x.1.0 x.1.1) (IsMsgOf
     from (msg.AskEntry tag ledger entry) w = ((tag, (ledger, entry)), w.0, refl)
     from _ w = absurd (let e = w.1 in cc)
 
+-- the message of this kind
 add_ok_exact : Exact (IsMsgOf kind.AddOk) msg_rest add_ok_from
 add_ok_exact = made_exact _ _ _ (λ x. msg.AddOk x.0 x.1) (IsMsgOf kind.AddOk) msg_rest (also_exact u64_exact u64_exact) (λ x v. ((v, refl), refl)) from
   where
@@ -86,6 +98,7 @@ add_ok_exact = made_exact _ _ _ (λ x. msg.AddOk x.0 x.1) (IsMsgOf kind.AddOk) m
     from (msg.AddOk ledger entry) w = ((ledger, entry), w.0, refl)
     from _ w = absurd (let e = w.1 in cc)
 
+-- the message of this kind
 add_fenced_exact : Exact (IsMsgOf kind.AddFenced) msg_rest add_fenced_from
 add_fenced_exact = made_exact _ _ _ (λ x. msg.AddFenced x.0 x.1) (IsMsgOf kind.AddFenced) msg_rest (also_exact u64_exact u64_exact) (λ x v. ((v, refl), refl)) from
   where
@@ -93,13 +106,15 @@ add_fenced_exact = made_exact _ _ _ (λ x. msg.AddFenced x.0 x.1) (IsMsgOf kind.
     from (msg.AddFenced ledger entry) w = ((ledger, entry), w.0, refl)
     from _ w = absurd (let e = w.1 in cc)
 
+-- the message of this kind
 full_exact : Exact (IsMsgOf kind.Full) msg_rest full_from
-full_exact = made_exact _ _ _ (λ x. msg.Full x.0 x.1.0 x.1.1) (IsMsgOf kind.Full) msg_rest (also_exact lack_exact (also_exact u64_exact u64_exact)) (λ x v. (((v.1.0, v.1.1), refl), refl)) from
+full_exact = made_exact _ _ _ (λ x. msg.Full x.0 x.1.0 x.1.1) (IsMsgOf kind.Full) msg_rest (also_exact resource_exact (also_exact u64_exact u64_exact)) (λ x v. (((v.1.0, v.1.1), refl), refl)) from
   where
-    from : (m : Msg) → IsMsgOf kind.Full m → (x : Lack × (ℕ × ℕ)) × (Unit {0} × (Fits w64 x.1.0 × Fits w64 x.1.1)) × (msg.Full x.0 x.1.0 x.1.1 ≡ m)
+    from : (m : Msg) → IsMsgOf kind.Full m → (x : Resource × (ℕ × ℕ)) × (Unit {0} × (Fits w64 x.1.0 × Fits w64 x.1.1)) × (msg.Full x.0 x.1.0 x.1.1 ≡ m)
     from (msg.Full what ledger entry) w = ((what, (ledger, entry)), (tt, (w.0.0, w.0.1)), refl)
     from _ w = absurd (let e = w.1 in cc)
 
+-- the message of this kind
 copy_ok_exact : Exact (IsMsgOf kind.CopyOk) msg_rest copy_ok_from
 copy_ok_exact = made_exact _ _ _ (λ x. msg.CopyOk x.0 x.1.0 x.1.1) (IsMsgOf kind.CopyOk) msg_rest (also_exact u32_exact (also_exact u64_exact u64_exact)) (λ x v. ((v, refl), refl)) from
   where
@@ -107,6 +122,7 @@ copy_ok_exact = made_exact _ _ _ (λ x. msg.CopyOk x.0 x.1.0 x.1.1) (IsMsgOf kin
     from (msg.CopyOk tag ledger entry) w = ((tag, (ledger, entry)), w.0, refl)
     from _ w = absurd (let e = w.1 in cc)
 
+-- the message of this kind
 lac_is_exact : Exact (IsMsgOf kind.LacIs) msg_rest lac_is_from
 lac_is_exact = made_exact _ _ _ (λ x. msg.LacIs x.0 x.1.0 x.1.1.0 x.1.1.1) (IsMsgOf kind.LacIs) msg_rest (also_exact u32_exact (also_exact u64_exact (also_exact flag_exact u64_exact))) (λ x v. (((v.0, (v.1.0, v.1.1.1)), refl), refl)) from
   where
@@ -114,6 +130,7 @@ lac_is_exact = made_exact _ _ _ (λ x. msg.LacIs x.0 x.1.0 x.1.1.0 x.1.1.1) (IsM
     from (msg.LacIs tag ledger fenced count) w = ((tag, (ledger, (fenced, count))), (w.0.0, (w.0.1.0, (tt, w.0.1.1))), refl)
     from _ w = absurd (let e = w.1 in cc)
 
+-- the message of this kind
 entry_is_exact : Exact (IsMsgOf kind.EntryIs) msg_rest entry_is_from
 entry_is_exact = made_exact _ _ _ (λ x. msg.EntryIs x.0 x.1.0 x.1.1.0 x.1.1.1) (IsMsgOf kind.EntryIs) msg_rest (also_exact u32_exact (also_exact u64_exact (also_exact u64_exact run32_exact))) (λ x v. ((v, refl), refl)) from
   where
@@ -121,6 +138,7 @@ entry_is_exact = made_exact _ _ _ (λ x. msg.EntryIs x.0 x.1.0 x.1.1.0 x.1.1.1) 
     from (msg.EntryIs tag ledger entry bytes) w = ((tag, (ledger, (entry, bytes))), w.0, refl)
     from _ w = absurd (let e = w.1 in cc)
 
+-- the message of this kind
 no_entry_exact : Exact (IsMsgOf kind.NoEntry) msg_rest no_entry_from
 no_entry_exact = made_exact _ _ _ (λ x. msg.NoEntry x.0 x.1.0 x.1.1.0 x.1.1.1) (IsMsgOf kind.NoEntry) msg_rest (also_exact u32_exact (also_exact u64_exact (also_exact u64_exact flag_exact))) (λ x v. (((v.0, (v.1.0, v.1.1.0)), refl), refl)) from
   where
@@ -128,13 +146,19 @@ no_entry_exact = made_exact _ _ _ (λ x. msg.NoEntry x.0 x.1.0 x.1.1.0 x.1.1.1) 
     from (msg.NoEntry tag ledger entry fenced) w = ((tag, (ledger, (entry, fenced))), (w.0.0, (w.0.1.0, (w.0.1.1, tt))), refl)
     from _ w = absurd (let e = w.1 in cc)
 
+-- a request that may delete and set all nodes
+any_request_exact : Exact IsRequest request_bytes (request_from (allows All))
+any_request_exact = exact_as (request_exact (allows All)) (λ r v. v.0) (λ r w. (w, all_allowed r))
+
+-- the message of this kind
 meta_ask_exact : Exact (IsMsgOf kind.MetaAsk) msg_rest meta_ask_from
-meta_ask_exact = made_exact _ _ _ (λ x. msg.MetaAsk x.0 x.1.0 x.1.1) (IsMsgOf kind.MetaAsk) msg_rest (also_exact u64_exact (also_exact u32_exact request_exact)) (λ x v. ((v, refl), refl)) from
+meta_ask_exact = made_exact _ _ _ (λ x. msg.MetaAsk x.0 x.1.0 x.1.1) (IsMsgOf kind.MetaAsk) msg_rest (also_exact u64_exact (also_exact u32_exact any_request_exact)) (λ x v. ((v, refl), refl)) from
   where
     from : (m : Msg) → IsMsgOf kind.MetaAsk m → (x : ℕ × (ℕ × MetaOp)) × (Fits w64 x.0 × (Fits w32 x.1.0 × IsRequest x.1.1)) × (msg.MetaAsk x.0 x.1.0 x.1.1 ≡ m)
     from (msg.MetaAsk session number op) w = ((session, (number, op)), w.0, refl)
     from _ w = absurd (let e = w.1 in cc)
 
+-- the message of this kind
 meta_reply_exact : Exact (IsMsgOf kind.MetaReply) msg_rest meta_reply_from
 meta_reply_exact = made_exact _ _ _ (λ x. msg.MetaReply x.0 x.1.0 x.1.1) (IsMsgOf kind.MetaReply) msg_rest (also_exact u64_exact (also_exact u32_exact reply_exact)) (λ x v. ((v, refl), refl)) from
   where
@@ -142,6 +166,7 @@ meta_reply_exact = made_exact _ _ _ (λ x. msg.MetaReply x.0 x.1.0 x.1.1) (IsMsg
     from (msg.MetaReply session number r) w = ((session, (number, r)), w.0, refl)
     from _ w = absurd (let e = w.1 in cc)
 
+-- a message behind its kind
 msg_rest_exact : (k : MsgKind) → Exact (IsMsgOf k) msg_rest (msg_rest_from k)
 msg_rest_exact kind.Add = add_exact
 msg_rest_exact kind.Copy = copy_exact
@@ -164,25 +189,13 @@ msg_exact = kinded_exact msg_kind IsMsg msg_rest msg_rest_from msg_kind_exact ms
 -- ---- a whole message
 
 -- What is read is a message, and the bytes are its spelling.
-pub is_found : (bytes : List ℕ) (m : Msg) → IsBytes bytes → whole_from msg_from bytes ≡ Ok m → IsMsg m × (bytes ≡ msg_bytes m)
+pub is_found : (bytes : List ℕ) (m : Msg) → IsBytes bytes → msg_at bytes ≡ Ok m → IsMsg m × (bytes ≡ msg_bytes m)
 is_found bytes m fits e = whole_found msg_exact bytes m fits e
 
--- What is spelt so is read.
-pub is_again : (bytes : List ℕ) (m : Msg) → IsMsg m → bytes ≡ msg_bytes m → whole_from msg_from bytes ≡ Ok m
-is_again bytes m valid spelt = ap (whole_from msg_from) spelt ∙ whole_again msg_exact m valid
-
 -- Bytes say one message.
-pub is_same : (bytes : List ℕ) (m n : Msg) → whole_from msg_from bytes ≡ Ok n → IsMsg m → bytes ≡ msg_bytes m → n ≡ m
-is_same bytes m n e valid spelt = let both : Ok n ≡ Ok m = sym e ∙ is_again bytes m valid spelt in cc
+pub is_same : (bytes : List ℕ) (m n : Msg) → msg_at bytes ≡ Ok n → IsMsg m → bytes ≡ msg_bytes m → n ≡ m
+is_same bytes m n e valid spelt = let both : Ok n ≡ Ok m = sym e ∙ ap msg_at spelt ∙ whole_again msg_exact m valid in cc
 
--- A fault stands within the bytes.
-pub is_within : (bytes : List ℕ) (s : Stop) → IsBytes bytes → whole_from msg_from bytes ≡ Err s → IsWithin (length bytes) s
-is_within bytes s fits e = whole_within msg_exact bytes s fits e
-
--- Where bytes are refused, they say no message.
-pub is_refused : (bytes : List ℕ) (s : Stop) → whole_from msg_from bytes ≡ Err s → (m : Msg) → IsMsg m → bytes ≡ msg_bytes m → ⊥
-is_refused bytes s e = whole_refused msg_exact bytes s e
-
--- The fault of a reading is told by its place.
-pub is_placed : (bytes : List ℕ) (s : Stop) → whole_from msg_from bytes ≡ Err s → msg_at bytes ≡ Err (placed (length bytes) s)
-is_placed bytes s e = ap (at_place (length bytes)) e
+-- Where bytes have a fault, they say no message.
+pub is_refused : (bytes : List ℕ) (f : Fault) → msg_at bytes ≡ Err f → SpellsNone bytes
+is_refused bytes f e = whole_refused msg_exact bytes f e

@@ -1,9 +1,5 @@
 pub mod Kinds
-pub mod Flags
-pub mod Operations
-pub mod OpReading
-pub mod Answers
-pub mod AnswerReading
 pub mod Messages
 pub mod Reading
 pub mod Whole
+pub mod Laws

@@ -10,10 +10,10 @@ use Rattle.dl_msg.specs.declared.meta_reply.MetaReply.{MetaReply}
 use Rattle.dl_msg.specs.declared.meta_reply.MetaReply.TheVariants as reply
 use Rattle.dl_msg.specs.declared.msg.Msg.{Msg}
 use Rattle.dl_msg.specs.declared.msg.Msg.TheVariants as msg
-use Rattle.dl_msg.specs.Kinds.{msg_code, lack_code}
-use Rattle.dl_msg.specs.Flags.{flag_byte}
-use Rattle.dl_msg.specs.Operations.{request_bytes, IsRequest}
-use Rattle.dl_msg.specs.Answers.{outcome_bytes, IsOutcome}
+use Rattle.dl_msg.specs.Kinds.{msg_code, resource_code}
+use Rattle.dl_fields.specs.Flags.{flag_byte}
+use Rattle.dl_tree_msg.specs.Requests.{request_bytes, IsRequest}
+use Rattle.dl_tree_msg.specs.Answers.{outcome_bytes, IsOutcome}
 
 -- ---- the reply to a request
 
@@ -27,6 +27,7 @@ abbrev pub reply_rest : MetaReply → List ℕ
 reply_rest reply.Expired = []
 reply_rest (reply.Answer a) = outcome_bytes a
 
+-- the spelling of a reply
 abbrev pub reply_bytes : MetaReply → List ℕ
 reply_bytes r = flag_byte (was_run r) ++ reply_rest r
 
@@ -37,6 +38,7 @@ IsReply (reply.Answer a) = IsOutcome a
 
 -- ---- messages
 
+-- the kind of a message
 abbrev pub msg_kind : Msg → MsgKind
 msg_kind (msg.Add ledger entry count bytes) = kind.Add
 msg_kind (msg.Copy tag ledger entry count bytes) = kind.Copy
@@ -60,7 +62,7 @@ msg_rest (msg.AskLac tag ledger fence) = field w32 tag ++ (field w64 ledger ++ f
 msg_rest (msg.AskEntry tag ledger entry) = field w32 tag ++ (field w64 ledger ++ field w64 entry)
 msg_rest (msg.AddOk ledger entry) = field w64 ledger ++ field w64 entry
 msg_rest (msg.AddFenced ledger entry) = field w64 ledger ++ field w64 entry
-msg_rest (msg.Full what ledger entry) = code_byte lack_code what ++ (field w64 ledger ++ field w64 entry)
+msg_rest (msg.Full what ledger entry) = code_byte resource_code what ++ (field w64 ledger ++ field w64 entry)
 msg_rest (msg.CopyOk tag ledger entry) = field w32 tag ++ (field w64 ledger ++ field w64 entry)
 msg_rest (msg.LacIs tag ledger fenced count) = field w32 tag ++ (field w64 ledger ++ (flag_byte fenced ++ field w64 count))
 msg_rest (msg.EntryIs tag ledger entry bytes) = field w32 tag ++ (field w64 ledger ++ (field w64 entry ++ counted w32 bytes))
@@ -68,7 +70,7 @@ msg_rest (msg.NoEntry tag ledger entry fenced) = field w32 tag ++ (field w64 led
 msg_rest (msg.MetaAsk session number request) = field w64 session ++ (field w32 number ++ request_bytes request)
 msg_rest (msg.MetaReply session number r) = field w64 session ++ (field w32 number ++ reply_bytes r)
 
--- a message
+-- the spelling of a message
 abbrev pub msg_bytes : Msg → List ℕ
 msg_bytes m = code_byte msg_code (msg_kind m) ++ msg_rest m
 

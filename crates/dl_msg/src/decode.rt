@@ -1,31 +1,34 @@
-ghost use Rattle.std.specs.Prelude.{◌≡◌, IfOk, IfErr};
-ghost use Rattle.dl_fields.specs.Readers.{Gives, whole_from};
+ghost use Rattle.std.specs.Prelude.{◌≡◌, Ok, IfOk, IfErr};
+ghost use Rattle.dl_fields.specs.Readers.{Gives, Reads, whole_from};
 ghost use Rattle.dl_msg.specs.declared.msg.Msg.{Msg};
 ghost use Rattle.dl_msg.specs.Messages.{msg_bytes, IsMsg};
-ghost use Rattle.dl_msg.specs.Reading.{add_from, copy_from, ask_lac_from, place_from, tagged_from, full_from, lac_is_from, entry_is_from, no_entry_from, meta_ask_from, reply_rest_from, reply_from, meta_reply_from, msg_rest_from, msg_from, ReadsAs, Refuses};
+ghost use Rattle.dl_msg.specs.Reading.{add_from, copy_from, ask_lac_from, place_from, tagged_from, full_from, lac_is_from, entry_is_from, no_entry_from, meta_ask_from, reply_rest_from, reply_from, meta_reply_from, msg_rest_from, msg_from, fault_at, IsOrNoMemory, Refuses};
 
-use crate::answer::answer_of;
 use crate::fault::MsgFault;
-use crate::field::flag_of;
 use crate::kind::MsgKind;
-use crate::lack::Lack;
 use crate::meta_reply::MetaReply;
 use crate::msg::Msg;
-use crate::op::op_of;
+use crate::resource::Resource;
 use bytes::Bytes;
-use dl_fields::code::code_of;
-use dl_fields::number::{u32_of, u64_of};
-use dl_fields::run::run_of_u32;
+use dl_fields::code::read_code;
+use dl_fields::fault::Fault;
+use dl_fields::flag::read_flag;
+use dl_fields::number::{read_u32, read_u64};
+use dl_fields::run::read_run_u32;
 use dl_fields::stop::Stop;
+use dl_tree_msg::answer::read_answer;
+use dl_tree_msg::request::read_request;
+use dl_tree_msg::rule::PathRule;
 use std::alloc::Global;
 
-fn add_of(alloc: Global, bytes: &[u8]) -> Result<(Msg, &[u8]), Stop>
+/// An addition behind its kind.
+fn read_add(alloc: Global, bytes: &[u8]) -> Result<(Msg, &[u8]), Stop>
     ensures { Gives (λ x. (x.0, x.1.now)) result (add_from bytes.now) }
 {
-    let (ledger, rest) = u64_of(bytes)?;
-    let (entry, rest) = u64_of(rest)?;
-    let (count, rest) = u64_of(rest)?;
-    let (run, rest) = run_of_u32(rest)?;
+    let (ledger, rest) = read_u64(bytes)?;
+    let (entry, rest) = read_u64(rest)?;
+    let (count, rest) = read_u64(rest)?;
+    let (run, rest) = read_run_u32(rest)?;
     let bytes = Bytes::copy_from_slice(alloc, run)?;
     Ok((
         Msg::Add {
@@ -38,14 +41,15 @@ fn add_of(alloc: Global, bytes: &[u8]) -> Result<(Msg, &[u8]), Stop>
     ))
 }
 
-fn copy_of(alloc: Global, bytes: &[u8]) -> Result<(Msg, &[u8]), Stop>
+/// A copy behind its kind.
+fn read_copy(alloc: Global, bytes: &[u8]) -> Result<(Msg, &[u8]), Stop>
     ensures { Gives (λ x. (x.0, x.1.now)) result (copy_from bytes.now) }
 {
-    let (tag, rest) = u32_of(bytes)?;
-    let (ledger, rest) = u64_of(rest)?;
-    let (entry, rest) = u64_of(rest)?;
-    let (count, rest) = u64_of(rest)?;
-    let (run, rest) = run_of_u32(rest)?;
+    let (tag, rest) = read_u32(bytes)?;
+    let (ledger, rest) = read_u64(rest)?;
+    let (entry, rest) = read_u64(rest)?;
+    let (count, rest) = read_u64(rest)?;
+    let (run, rest) = read_run_u32(rest)?;
     let bytes = Bytes::copy_from_slice(alloc, run)?;
     Ok((
         Msg::Copy {
@@ -59,38 +63,40 @@ fn copy_of(alloc: Global, bytes: &[u8]) -> Result<(Msg, &[u8]), Stop>
     ))
 }
 
-fn ask_lac_of(bytes: &[u8]) -> Result<(Msg, &[u8]), Stop>
-    ensures { Gives (λ x. (x.0, x.1.now)) result (ask_lac_from bytes.now) }
+/// A question for the confirmed count behind its kind.
+fn read_ask_lac(bytes: &[u8]) -> Result<(Msg, &[u8]), Fault>
+    ensures { Reads (λ x. (x.0, x.1.now)) result (ask_lac_from bytes.now) }
 {
-    let (tag, rest) = u32_of(bytes)?;
-    let (ledger, rest) = u64_of(rest)?;
-    let (fence, rest) = flag_of(rest)?;
+    let (tag, rest) = read_u32(bytes)?;
+    let (ledger, rest) = read_u64(rest)?;
+    let (fence, rest) = read_flag(rest)?;
     Ok((Msg::AskLac { tag, ledger, fence }, rest))
 }
 
 /// A ledger and an entry.
-fn place_of(bytes: &[u8]) -> Result<((u64, u64), &[u8]), Stop>
-    ensures { Gives (λ x. (x.0, x.1.now)) result (place_from bytes.now) }
+fn read_place(bytes: &[u8]) -> Result<((u64, u64), &[u8]), Fault>
+    ensures { Reads (λ x. (x.0, x.1.now)) result (place_from bytes.now) }
 {
-    let (ledger, rest) = u64_of(bytes)?;
-    let (entry, rest) = u64_of(rest)?;
+    let (ledger, rest) = read_u64(bytes)?;
+    let (entry, rest) = read_u64(rest)?;
     Ok(((ledger, entry), rest))
 }
 
 /// A tag, a ledger and an entry.
-fn tagged_of(bytes: &[u8]) -> Result<((u32, (u64, u64)), &[u8]), Stop>
-    ensures { Gives (λ x. (x.0, x.1.now)) result (tagged_from bytes.now) }
+fn read_tagged(bytes: &[u8]) -> Result<((u32, (u64, u64)), &[u8]), Fault>
+    ensures { Reads (λ x. (x.0, x.1.now)) result (tagged_from bytes.now) }
 {
-    let (tag, rest) = u32_of(bytes)?;
-    let (place, rest) = place_of(rest)?;
+    let (tag, rest) = read_u32(bytes)?;
+    let (place, rest) = read_place(rest)?;
     Ok(((tag, place), rest))
 }
 
-fn full_of(bytes: &[u8]) -> Result<(Msg, &[u8]), Stop>
-    ensures { Gives (λ x. (x.0, x.1.now)) result (full_from bytes.now) }
+/// A want of room behind its kind.
+fn read_full(bytes: &[u8]) -> Result<(Msg, &[u8]), Fault>
+    ensures { Reads (λ x. (x.0, x.1.now)) result (full_from bytes.now) }
 {
-    let (what, rest) = code_of(&Lack::ALL, bytes)?;
-    let ((ledger, entry), rest) = place_of(rest)?;
+    let (what, rest) = read_code(&Resource::ALL, bytes)?;
+    let ((ledger, entry), rest) = read_place(rest)?;
     Ok((
         Msg::Full {
             what,
@@ -101,13 +107,14 @@ fn full_of(bytes: &[u8]) -> Result<(Msg, &[u8]), Stop>
     ))
 }
 
-fn lac_is_of(bytes: &[u8]) -> Result<(Msg, &[u8]), Stop>
-    ensures { Gives (λ x. (x.0, x.1.now)) result (lac_is_from bytes.now) }
+/// A confirmed count behind its kind.
+fn read_lac_is(bytes: &[u8]) -> Result<(Msg, &[u8]), Fault>
+    ensures { Reads (λ x. (x.0, x.1.now)) result (lac_is_from bytes.now) }
 {
-    let (tag, rest) = u32_of(bytes)?;
-    let (ledger, rest) = u64_of(rest)?;
-    let (fenced, rest) = flag_of(rest)?;
-    let (count, rest) = u64_of(rest)?;
+    let (tag, rest) = read_u32(bytes)?;
+    let (ledger, rest) = read_u64(rest)?;
+    let (fenced, rest) = read_flag(rest)?;
+    let (count, rest) = read_u64(rest)?;
     Ok((
         Msg::LacIs {
             tag,
@@ -119,13 +126,14 @@ fn lac_is_of(bytes: &[u8]) -> Result<(Msg, &[u8]), Stop>
     ))
 }
 
-fn entry_is_of(alloc: Global, bytes: &[u8]) -> Result<(Msg, &[u8]), Stop>
+/// An entry behind its kind.
+fn read_entry_is(alloc: Global, bytes: &[u8]) -> Result<(Msg, &[u8]), Stop>
     ensures { Gives (λ x. (x.0, x.1.now)) result (entry_is_from bytes.now) }
 {
-    let (tag, rest) = u32_of(bytes)?;
-    let (ledger, rest) = u64_of(rest)?;
-    let (entry, rest) = u64_of(rest)?;
-    let (run, rest) = run_of_u32(rest)?;
+    let (tag, rest) = read_u32(bytes)?;
+    let (ledger, rest) = read_u64(rest)?;
+    let (entry, rest) = read_u64(rest)?;
+    let (run, rest) = read_run_u32(rest)?;
     let bytes = Bytes::copy_from_slice(alloc, run)?;
     Ok((
         Msg::EntryIs {
@@ -138,13 +146,14 @@ fn entry_is_of(alloc: Global, bytes: &[u8]) -> Result<(Msg, &[u8]), Stop>
     ))
 }
 
-fn no_entry_of(bytes: &[u8]) -> Result<(Msg, &[u8]), Stop>
-    ensures { Gives (λ x. (x.0, x.1.now)) result (no_entry_from bytes.now) }
+/// A denial of an entry behind its kind.
+fn read_no_entry(bytes: &[u8]) -> Result<(Msg, &[u8]), Fault>
+    ensures { Reads (λ x. (x.0, x.1.now)) result (no_entry_from bytes.now) }
 {
-    let (tag, rest) = u32_of(bytes)?;
-    let (ledger, rest) = u64_of(rest)?;
-    let (entry, rest) = u64_of(rest)?;
-    let (fenced, rest) = flag_of(rest)?;
+    let (tag, rest) = read_u32(bytes)?;
+    let (ledger, rest) = read_u64(rest)?;
+    let (entry, rest) = read_u64(rest)?;
+    let (fenced, rest) = read_flag(rest)?;
     Ok((
         Msg::NoEntry {
             tag,
@@ -156,12 +165,13 @@ fn no_entry_of(bytes: &[u8]) -> Result<(Msg, &[u8]), Stop>
     ))
 }
 
-fn meta_ask_of(alloc: Global, bytes: &[u8]) -> Result<(Msg, &[u8]), Stop>
+/// A request of a session behind its kind.
+fn read_meta_ask(alloc: Global, bytes: &[u8]) -> Result<(Msg, &[u8]), Stop>
     ensures { Gives (λ x. (x.0, x.1.now)) result (meta_ask_from bytes.now) }
 {
-    let (session, rest) = u64_of(bytes)?;
-    let (number, rest) = u32_of(rest)?;
-    let (op, rest) = op_of(alloc, rest)?;
+    let (session, rest) = read_u64(bytes)?;
+    let (number, rest) = read_u32(rest)?;
+    let (op, rest) = read_request(alloc, PathRule::All, rest)?;
     Ok((
         Msg::MetaAsk {
             session,
@@ -173,30 +183,32 @@ fn meta_ask_of(alloc: Global, bytes: &[u8]) -> Result<(Msg, &[u8]), Stop>
 }
 
 /// A reply behind the flag that says whether the request was run.
-fn reply_rest_of(alloc: Global, run: bool, bytes: &[u8]) -> Result<(MetaReply, &[u8]), Stop>
+fn read_reply_rest(alloc: Global, run: bool, bytes: &[u8]) -> Result<(MetaReply, &[u8]), Stop>
     ensures { Gives (λ x. (x.0, x.1.now)) result (reply_rest_from run bytes.now) }
 {
     if run {
-        let (answer, rest) = answer_of(alloc, bytes)?;
+        let (answer, rest) = read_answer(alloc, bytes)?;
         Ok((MetaReply::Answer(answer), rest))
     } else {
         Ok((MetaReply::Expired, bytes))
     }
 }
 
-fn reply_of(alloc: Global, bytes: &[u8]) -> Result<(MetaReply, &[u8]), Stop>
+/// A reply to a request.
+fn read_reply(alloc: Global, bytes: &[u8]) -> Result<(MetaReply, &[u8]), Stop>
     ensures { Gives (λ x. (x.0, x.1.now)) result (reply_from bytes.now) }
 {
-    let (run, rest) = flag_of(bytes)?;
-    reply_rest_of(alloc, run, rest)
+    let (run, rest) = read_flag(bytes)?;
+    read_reply_rest(alloc, run, rest)
 }
 
-fn meta_reply_of(alloc: Global, bytes: &[u8]) -> Result<(Msg, &[u8]), Stop>
+/// A reply to a session behind its kind.
+fn read_meta_reply(alloc: Global, bytes: &[u8]) -> Result<(Msg, &[u8]), Stop>
     ensures { Gives (λ x. (x.0, x.1.now)) result (meta_reply_from bytes.now) }
 {
-    let (session, rest) = u64_of(bytes)?;
-    let (number, rest) = u32_of(rest)?;
-    let (reply, rest) = reply_of(alloc, rest)?;
+    let (session, rest) = read_u64(bytes)?;
+    let (number, rest) = read_u32(rest)?;
+    let (reply, rest) = read_reply(alloc, rest)?;
     Ok((
         Msg::MetaReply {
             session,
@@ -208,53 +220,72 @@ fn meta_reply_of(alloc: Global, bytes: &[u8]) -> Result<(Msg, &[u8]), Stop>
 }
 
 /// A message behind its kind.
-fn rest_of(alloc: Global, kind: MsgKind, bytes: &[u8]) -> Result<(Msg, &[u8]), Stop>
+fn read_rest(alloc: Global, kind: MsgKind, bytes: &[u8]) -> Result<(Msg, &[u8]), Stop>
     ensures { Gives (λ x. (x.0, x.1.now)) result (msg_rest_from kind bytes.now) }
 {
     match kind {
-        MsgKind::Add => add_of(alloc, bytes),
-        MsgKind::Copy => copy_of(alloc, bytes),
-        MsgKind::AskLac => ask_lac_of(bytes),
+        MsgKind::Add => read_add(alloc, bytes),
+        MsgKind::Copy => read_copy(alloc, bytes),
+        MsgKind::AskLac => Ok(read_ask_lac(bytes)?),
         MsgKind::AskEntry => {
-            let ((tag, (ledger, entry)), rest) = tagged_of(bytes)?;
+            let ((tag, (ledger, entry)), rest) = read_tagged(bytes)?;
             Ok((Msg::AskEntry { tag, ledger, entry }, rest))
         }
         MsgKind::AddOk => {
-            let ((ledger, entry), rest) = place_of(bytes)?;
+            let ((ledger, entry), rest) = read_place(bytes)?;
             Ok((Msg::AddOk { ledger, entry }, rest))
         }
         MsgKind::AddFenced => {
-            let ((ledger, entry), rest) = place_of(bytes)?;
+            let ((ledger, entry), rest) = read_place(bytes)?;
             Ok((Msg::AddFenced { ledger, entry }, rest))
         }
-        MsgKind::Full => full_of(bytes),
+        MsgKind::Full => Ok(read_full(bytes)?),
         MsgKind::CopyOk => {
-            let ((tag, (ledger, entry)), rest) = tagged_of(bytes)?;
+            let ((tag, (ledger, entry)), rest) = read_tagged(bytes)?;
             Ok((Msg::CopyOk { tag, ledger, entry }, rest))
         }
-        MsgKind::LacIs => lac_is_of(bytes),
-        MsgKind::EntryIs => entry_is_of(alloc, bytes),
-        MsgKind::NoEntry => no_entry_of(bytes),
-        MsgKind::MetaAsk => meta_ask_of(alloc, bytes),
-        MsgKind::MetaReply => meta_reply_of(alloc, bytes),
+        MsgKind::LacIs => Ok(read_lac_is(bytes)?),
+        MsgKind::EntryIs => read_entry_is(alloc, bytes),
+        MsgKind::NoEntry => Ok(read_no_entry(bytes)?),
+        MsgKind::MetaAsk => read_meta_ask(alloc, bytes),
+        MsgKind::MetaReply => read_meta_reply(alloc, bytes),
     }
 }
 
-fn msg_of(alloc: Global, bytes: &[u8]) -> Result<(Msg, &[u8]), Stop>
+/// A message.
+fn read_msg(alloc: Global, bytes: &[u8]) -> Result<(Msg, &[u8]), Stop>
     ensures { Gives (λ x. (x.0, x.1.now)) result (msg_from bytes.now) }
 {
-    let (kind, rest) = code_of(&MsgKind::ALL, bytes)?;
-    rest_of(alloc, kind, rest)
+    let (kind, rest) = read_code(&MsgKind::ALL, bytes)?;
+    read_rest(alloc, kind, rest)
 }
 
-fn whole_of(alloc: Global, bytes: &[u8]) -> Result<Msg, Stop>
+/// A message that is all of the bytes.
+fn read_whole(alloc: Global, bytes: &[u8]) -> Result<Msg, Stop>
     ensures { Gives (λ x. x) result (whole_from msg_from bytes.now) }
 {
-    let (msg, rest) = msg_of(alloc, bytes)?;
+    let (msg, rest) = read_msg(alloc, bytes)?;
     if rest.is_empty() {
         Ok(msg)
     } else {
-        Err(Stop::Long(rest.len()))
+        Err(Stop::Fault(Fault::Long(rest.len())))
+    }
+}
+
+/// A fault with its place among so many bytes.
+fn fault_at(size: usize, fault: Fault) -> MsgFault
+    ensures { result ≡ fault_at size fault }
+{
+    match fault {
+        Fault::Short(left) => MsgFault::Short {
+            at: size.saturating_sub(left),
+        },
+        Fault::Bad(left) => MsgFault::BadKind {
+            at: size.saturating_sub(left),
+        },
+        Fault::Long(left) => MsgFault::Long {
+            at: size.saturating_sub(left),
+        },
     }
 }
 
@@ -264,21 +295,13 @@ pub fn decode(alloc: Global, bytes: &[u8]) -> Result<Msg, MsgFault>
     // What is read is a message, and the bytes are its one spelling.
     ensures found { IfOk result (λ m. IsMsg m × (bytes.now ≡ msg_bytes m)) }
     // What spells a message is read, unless memory runs out.
-    ensures only { (m : Msg) → IsMsg m → bytes.now ≡ msg_bytes m → ReadsAs m result }
+    ensures only { (m : Msg) → IsMsg m → bytes.now ≡ msg_bytes m → IsOrNoMemory (Ok m) result }
     // A fault is the first in the order of the bytes, and then they spell no message.
     ensures refused { IfErr result (Refuses bytes.now) }
 {
-    match whole_of(alloc, bytes) {
+    match read_whole(alloc, bytes) {
         Ok(msg) => Ok(msg),
         Err(Stop::NoMemory) => Err(MsgFault::NoMemory),
-        Err(Stop::Short(left)) => Err(MsgFault::Short {
-            at: bytes.len() - left,
-        }),
-        Err(Stop::Bad(left)) => Err(MsgFault::BadKind {
-            at: bytes.len() - left,
-        }),
-        Err(Stop::Long(left)) => Err(MsgFault::Long {
-            at: bytes.len() - left,
-        }),
+        Err(Stop::Fault(fault)) => Err(fault_at(bytes.len(), fault)),
     }
 }

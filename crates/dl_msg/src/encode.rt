@@ -3,19 +3,19 @@ ghost use Rattle.std.specs.Int.{w32, w64};
 ghost use Rattle.dl_codec.specs.Fields.{field};
 ghost use Rattle.dl_fields.specs.Fields.{counted, IsCounted};
 ghost use Rattle.dl_fields.specs.Codes.{code_byte};
-ghost use Rattle.dl_msg.specs.Kinds.{lack_code};
-ghost use Rattle.dl_msg.specs.Flags.{flag_byte};
+ghost use Rattle.dl_msg.specs.Kinds.{resource_code};
+ghost use Rattle.dl_fields.specs.Flags.{flag_byte};
 ghost use Rattle.dl_msg.specs.Messages.{reply_bytes, IsReply, msg_rest, msg_bytes, IsMsg};
 
-use crate::answer::put_outcome;
-use crate::field::put_flag;
 use crate::kind::MsgKind;
 use crate::meta_reply::MetaReply;
 use crate::msg::Msg;
-use crate::op::put_request;
 use dl_codec::write::{put_u8, put_u32, put_u64};
 use dl_fields::code::Code;
+use dl_fields::flag::put_flag;
 use dl_fields::write::put_run_u32;
+use dl_tree_msg::answer::put_answer;
+use dl_tree_msg::request::put_request;
 use dl_types::memory::NoMemory;
 use std::alloc::Global;
 
@@ -35,7 +35,8 @@ fn put_tagged(
     ledger: u64,
     entry: u64,
 ) -> Result<(), NoMemory>
-    ensures { OnOk result (out.new.items ≡ out.old.items ++ (field w32 tag ++ (field w64 ledger ++ field w64 entry))) }
+    ensures { OnOk result (out.new.items ≡ out.old.items ++ (field w32 tag ++ (field w64 ledger
+        ++ field w64 entry))) }
 {
     put_u32(alloc, out, tag)?;
     put_place(alloc, out, ledger, entry)
@@ -51,7 +52,8 @@ fn put_entry(
     bytes: &[u8],
 ) -> Result<(), NoMemory>
     requires { IsCounted w32 bytes.now }
-    ensures { OnOk result (out.new.items ≡ out.old.items ++ (field w64 ledger ++ (field w64 entry ++ (field w64 count ++ counted w32 bytes.now)))) }
+    ensures { OnOk result (out.new.items ≡ out.old.items ++ (field w64 ledger ++ (field w64 entry
+        ++ (field w64 count ++ counted w32 bytes.now)))) }
 {
     put_place(alloc, out, ledger, entry)?;
     put_u64(alloc, out, count)?;
@@ -67,7 +69,8 @@ fn put_lac(
     fenced: bool,
     count: u64,
 ) -> Result<(), NoMemory>
-    ensures { OnOk result (out.new.items ≡ out.old.items ++ (field w32 tag ++ (field w64 ledger ++ (flag_byte fenced ++ field w64 count)))) }
+    ensures { OnOk result (out.new.items ≡ out.old.items ++ (field w32 tag ++ (field w64 ledger
+        ++ (flag_byte fenced ++ field w64 count)))) }
 {
     put_u32(alloc, out, tag)?;
     put_u64(alloc, out, ledger)?;
@@ -83,6 +86,7 @@ fn put_asker(alloc: Global, out: &mut Vec<u8>, session: u64, number: u32) -> Res
     put_u32(alloc, out, number)
 }
 
+/// Adds a reply to a request.
 fn put_reply(alloc: Global, out: &mut Vec<u8>, reply: &MetaReply) -> Result<(), NoMemory>
     requires { IsReply reply.now }
     ensures { OnOk result (out.new.items ≡ out.old.items ++ reply_bytes reply.now) }
@@ -91,7 +95,7 @@ fn put_reply(alloc: Global, out: &mut Vec<u8>, reply: &MetaReply) -> Result<(), 
         MetaReply::Expired => put_flag(alloc, out, false),
         MetaReply::Answer(answer) => {
             put_flag(alloc, out, true)?;
-            put_outcome(alloc, out, answer)
+            put_answer(alloc, out, answer)
         }
     }
 }

@@ -1,9 +1,9 @@
 ghost use Rattle.std.specs.Prelude.{◌≡◌};
-ghost use Rattle.dl_msg.specs.Kinds.{msg_code, lack_code};
+ghost use Rattle.dl_msg.specs.Kinds.{msg_code, resource_code};
 ghost use Rattle.dl_msg.specs.Messages.{msg_kind};
 
-use crate::lack::Lack;
 use crate::msg::Msg;
+use crate::resource::Resource;
 use dl_fields::code::Code;
 
 /// The kinds of messages.
@@ -86,27 +86,27 @@ impl Code for MsgKind {
     }
 }
 
-impl Lack {
-    /// All that a bookie may lack.
-    pub(crate) const ALL: [Lack; 5] = [
-        Lack::Pool,
-        Lack::Index,
-        Lack::Ledgers,
-        Lack::Queue,
-        Lack::Journal,
+impl Resource {
+    /// All that a bookie may have too little of.
+    pub(crate) const ALL: [Resource; 5] = [
+        Resource::Pool,
+        Resource::Index,
+        Resource::Ledgers,
+        Resource::Queue,
+        Resource::Journal,
     ];
 }
 
-impl Code for Lack {
-    ghost code = { lack_code };
+impl Code for Resource {
+    ghost code = { resource_code };
 
     fn code(self) -> u8 {
         match self {
-            Lack::Pool => 1,
-            Lack::Index => 2,
-            Lack::Ledgers => 3,
-            Lack::Queue => 4,
-            Lack::Journal => 5,
+            Resource::Pool => 1,
+            Resource::Index => 2,
+            Resource::Ledgers => 3,
+            Resource::Queue => 4,
+            Resource::Journal => 5,
         }
     }
 }

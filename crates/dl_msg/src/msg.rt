@@ -1,5 +1,5 @@
-use crate::lack::Lack;
 use crate::meta_reply::MetaReply;
+use crate::resource::Resource;
 use bytes::Bytes;
 use dl_types::meta_op::MetaOp;
 
@@ -47,7 +47,7 @@ pub enum Msg {
     },
     /// There is no room for the entry, or for the fence of the ledger, whose entry is then 0.
     Full {
-        what: Lack,
+        what: Resource,
         ledger: u64,
         entry: u64,
     },

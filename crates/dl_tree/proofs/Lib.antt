@@ -3,7 +3,7 @@ pub mod SlotLemmas
 pub mod Done
 pub mod LawLemmas
 pub mod NameLemmas
-pub mod DigitLemmas
+pub mod CounterLemmas
 pub mod RunLemmas
 pub mod PartLemmas
 pub mod RangeLemmas

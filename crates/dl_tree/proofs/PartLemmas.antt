@@ -2,7 +2,8 @@
 use Rattle.std.proofs.Common.{◌≡◌, ℕ, zero, suc, ◌+◌, ◌-◌, ◌<◌, ◌≤◌, true, cond, not, ◌==◌, List, [], ◌∷◌, ◌++◌, length, get_or, take, drop, refl, ap, ◌∙◌, arith, length-append}
 use Rattle.std.proofs.lemmas.Bool.{ne_eqb, cond-true, cond-false, eq-eqb}
 use Rattle.std.proofs.lemmas.List.Sums.{suffix_len_is}
-use Rattle.dl_tree.specs.Paths.{name_length, name_of, parent_of, NoSlash, or_root, root}
+use Rattle.dl_fields.specs.Paths.{last_length, NoSlash}
+use Rattle.dl_tree.specs.Paths.{name_of, parent_of, or_root, root}
 
 no_slash : (p : List ℕ) → NoSlash p → (j : ℕ) → j < length p → not (get_or p j 0 == 47) ≡ true
 no_slash [] n j h = absurd (omega (arith, h))
@@ -27,11 +28,11 @@ part_left : (front p : List ℕ) → drop (suc (length front)) (front ++ 47 ∷ 
 part_left [] p = refl
 part_left (c ∷ cs) p = part_left cs p
 
-starts_at : (front p : List ℕ) → NoSlash p → length (front ++ 47 ∷ p) - name_length (front ++ 47 ∷ p) ≡ suc (length front)
+starts_at : (front p : List ℕ) → NoSlash p → length (front ++ 47 ∷ p) - last_length (front ++ 47 ∷ p) ≡ suc (length front)
 starts_at front p n =
     let whole : length (front ++ 47 ∷ p) ≡ length front + length (47 ∷ p) = length-append front (47 ∷ p) in
     let before : suc (length front) - 1 ≡ length front = omega arith in
-    let is : name_length (front ++ 47 ∷ p) ≡ length (front ++ 47 ∷ p) - suc (length front) =
+    let is : last_length (front ++ 47 ∷ p) ≡ length (front ++ 47 ∷ p) - suc (length front) =
     suffix_len_is (λ c. not (c == 47)) (front ++ 47 ∷ p) (suc (length front)) 0 (omega (arith, whole)) (after_slash front p n)
     (λ _. ap (λ (i : ℕ). not (get_or (front ++ 47 ∷ p) i 0 == 47)) before ∙ ap (λ (x : ℕ). not (x == 47)) (at_slash front p)) in
     omega (arith, whole, is)

@@ -10,7 +10,8 @@ use Rattle.std.specs.declared.cmp.Ordering.TheVariants.{Equal}
 use Rattle.std.specs.declared.ops.Bound.TheVariants.{Included, Excluded}
 use Rattle.std.specs.BTreeMap.Range.{range_contains, entries_between}
 use Rattle.dl_tree.specs.declared.node.Node.{Node}
-use Rattle.dl_tree.specs.Paths.{name_of, front_of, name_length, root, extended, below, past_below, is_below}
+use Rattle.dl_fields.specs.Paths.{last_length}
+use Rattle.dl_tree.specs.Paths.{name_of, front_of, root, extended, below, past_below, is_below}
 use Rattle.dl_tree.specs.Slots.{names_in}
 
 same_number : (x : ℕ) → nat_cmp x x ≡ Equal
@@ -54,7 +55,7 @@ is_below-range : (path k : List ℕ) → is_below (below path) k ≡ true → ra
 unfolding front_of name_of
 is_below-range path k e =
     let front : front_of k ≡ below path = (bytes_eq-Decides (front_of k) (below path)).0 (and_left _ _ e) in
-    let whole : k ≡ (stem path ++ 47 ∷ []) ++ name_of k = sym (take-append-drop (length k - name_length k) k) ∙ ap (λ (x : List ℕ). x ++ name_of k) (front ∙ extended-stem path 47) in
+    let whole : k ≡ (stem path ++ 47 ∷ []) ++ name_of k = sym (take-append-drop (length k - last_length k) k) ∙ ap (λ (x : List ℕ). x ++ name_of k) (front ∙ extended-stem path 47) in
     ap₂ (λ (x y : List ℕ). range_contains (slice_cmp nat_cmp) (Included x) (Excluded y) k) (extended-stem path 47) (extended-stem path 48)
     ∙ ap (λ (q : List ℕ). range_contains (slice_cmp nat_cmp) (Included (stem path ++ 47 ∷ [])) (Excluded (stem path ++ 48 ∷ [])) q) whole ∙ in_range (stem path) (name_of k)
 

@@ -1,22 +1,18 @@
 -- Paths: a `/` before each part. The root is `/`.
-use Rattle.std.specs.Prelude.{◌≡◌, ℕ, zero, suc, ◌+◌, ◌-◌, ◌/◌, ◌%◌, Bool, ◌&&◌, not, ◌==◌, if◌then◌else◌, List, [], ◌∷◌, ◌++◌, length, take, drop, bytes_eq}
-use Rattle.std.specs.List.{suffix_len}
+use Rattle.std.specs.Prelude.{◌≡◌, ℕ, ◌-◌, Bool, ◌&&◌, not, ◌==◌, if◌then◌else◌, List, [], ◌∷◌, ◌++◌, length, take, drop, bytes_eq}
+use Rattle.dl_fields.specs.Paths.{NoSlash, last_length}
 
 -- the root's path
 abbrev pub root : List ℕ
 root = 47 ∷ []
 
--- how many bytes stand after the last slash
-abbrev pub name_length : List ℕ → ℕ
-name_length path = suffix_len (λ c. not (c == 47)) path
-
 -- the last part, without its slash
 unfoldable pub name_of : List ℕ → List ℕ
-name_of path = drop (length path - name_length path) path
+name_of path = drop (length path - last_length path) path
 
 -- all before the last part, with its slash
 unfoldable pub front_of : List ℕ → List ℕ
-front_of path = take (length path - name_length path) path
+front_of path = take (length path - last_length path) path
 
 -- a path, without the slash that is the root's, and one more byte
 abbrev pub extended : List ℕ → ℕ → List ℕ
@@ -32,7 +28,7 @@ past_below path = extended path 48
 
 -- the path of a node's parent
 unfoldable pub parent_of : List ℕ → List ℕ
-parent_of path = if length path - name_length path == 1 then root else take (length path - name_length path - 1) path
+parent_of path = if length path - last_length path == 1 then root else take (length path - last_length path - 1) path
 
 -- whether a path is this beginning and one more part
 abbrev pub is_below : List ℕ → List ℕ → Bool
@@ -41,16 +37,6 @@ is_below prefix path = bytes_eq (front_of path) prefix && not (length (name_of p
 -- whether a path is that of a child of another
 abbrev pub is_child : List ℕ → List ℕ → Bool
 is_child parent path = is_below (below parent) path
-
--- the last digits of a number, so many
-abbrev pub digits : ℕ → ℕ → List ℕ
-digits zero k = []
-digits (suc n) k = digits n (k / 10) ++ (48 + k % 10) ∷ []
-
--- a part has no slash
-abbrev pub NoSlash : List ℕ → Type 0
-NoSlash [] = Unit {0}
-NoSlash (c ∷ cs) = (c ≡ 47 → ⊥) × NoSlash cs
 
 -- the root where nothing stands before the last slash
 abbrev pub or_root : List ℕ → List ℕ

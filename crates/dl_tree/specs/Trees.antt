@@ -16,7 +16,8 @@ use Rattle.dl_types.specs.declared.meta_answer.MetaAnswer.TheVariants as answer
 use Rattle.dl_types.specs.declared.why.Why.{Why}
 use Rattle.dl_types.specs.declared.why.Why.TheVariants.{NoNode, NodeExists, BadVersion, NotEmpty, EphemeralParent, Spent}
 use Rattle.dl_tree.specs.declared.node.Node.{Node}
-use Rattle.dl_tree.specs.Paths.{root, parent_of, name_of, is_child, digits}
+use Rattle.dl_fields.specs.Digits.{digits}
+use Rattle.dl_tree.specs.Paths.{root, parent_of, name_of, is_child}
 
 -- a finite map from paths, in byte order, to nodes
 abbrev pub Nodes : Type 0

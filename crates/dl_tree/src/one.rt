@@ -54,7 +54,8 @@ fn owner_of(mode: Mode, session: u64) -> Option<u64>
 
 /// A check of a node.
 pub(crate) fn check(nodes: &Nodes, path: &Path, version: Option<u64>) -> Result<OneAnswer, OneFault>
-    ensures ok { IfOk result (λ a. check nodes.now.0 version (get nodes.now.0 path.now) ≡ Ok (a, nodes.now.0)) }
+    ensures ok { IfOk result (λ a. check nodes.now.0 version (get nodes.now.0 path.now)
+        ≡ Ok (a, nodes.now.0)) }
     ensures err { IfErr result (IsFault (check nodes.now.0 version (get nodes.now.0 path.now))) }
 {
     match nodes.get(path) {
@@ -86,7 +87,8 @@ pub(crate) fn bytes_at(nodes: &Nodes, path: &Path) -> Result<OneAnswer, OneFault
 
 /// The names of a node's children.
 pub(crate) fn names(nodes: &Nodes, alloc: Global, path: &Path) -> Result<OneAnswer, OneFault>
-    ensures ok { IfOk result (λ a. names nodes.now.0 path.now (get nodes.now.0 path.now) ≡ Ok (a, nodes.now.0)) }
+    ensures ok { IfOk result (λ a. names nodes.now.0 path.now (get nodes.now.0 path.now)
+        ≡ Ok (a, nodes.now.0)) }
     ensures err { IfErr result (IsFault (names nodes.now.0 path.now (get nodes.now.0 path.now))) }
 {
     match nodes.get(path) {
@@ -146,7 +148,8 @@ fn create_below(
     mode: Mode,
 ) -> Result<OneAnswer, OneFault>
     requires { above.now ≡ parent_of path.now }
-    ensures ok { IfOk result (λ a. created nodes.old.0 session path.now bytes.now mode parent ≡ Ok (a, nodes.new.0)) }
+    ensures ok { IfOk result (λ a. created nodes.old.0 session path.now bytes.now mode parent
+        ≡ Ok (a, nodes.new.0)) }
     ensures err { IfErr result (IsFault (created nodes.old.0 session path.now bytes.now mode parent)) }
     ensures back { nodes.new.1 ≡ nodes.old.1 }
 {
@@ -180,8 +183,10 @@ pub(crate) fn create(
     bytes: &Body,
     mode: Mode,
 ) -> Result<OneAnswer, OneFault>
-    ensures ok { IfOk result (λ a. create nodes.old.0 session path.now bytes.now mode (parent_in nodes.old.0 path.now mode) ≡ Ok (a, nodes.new.0)) }
-    ensures err { IfErr result (IsFault (create nodes.old.0 session path.now bytes.now mode (parent_in nodes.old.0 path.now mode))) }
+    ensures ok { IfOk result (λ a. create nodes.old.0 session path.now bytes.now mode
+        (parent_in nodes.old.0 path.now mode) ≡ Ok (a, nodes.new.0)) }
+    ensures err { IfErr result (IsFault (create nodes.old.0 session path.now bytes.now mode
+        (parent_in nodes.old.0 path.now mode))) }
     ensures back { nodes.new.1 ≡ nodes.old.1 }
 {
     if is_rootless(path, mode) {
@@ -211,7 +216,8 @@ pub(crate) fn delete(
     path: &Path,
     version: Option<u64>,
 ) -> Result<OneAnswer, OneFault>
-    ensures ok { IfOk result (λ a. delete nodes.old.0 path.now version (get nodes.old.0 path.now) ≡ Ok (a, nodes.new.0)) }
+    ensures ok { IfOk result (λ a. delete nodes.old.0 path.now version (get nodes.old.0 path.now)
+        ≡ Ok (a, nodes.new.0)) }
     ensures err { IfErr result (IsFault (delete nodes.old.0 path.now version (get nodes.old.0 path.now))) }
     ensures back { nodes.new.1 ≡ nodes.old.1 }
 {
@@ -240,8 +246,10 @@ pub(crate) fn set(
     bytes: &Body,
     version: Option<u64>,
 ) -> Result<OneAnswer, OneFault>
-    ensures ok { IfOk result (λ a. set nodes.old.0 path.now bytes.now version (get nodes.old.0 path.now) ≡ Ok (a, nodes.new.0)) }
-    ensures err { IfErr result (IsFault (set nodes.old.0 path.now bytes.now version (get nodes.old.0 path.now))) }
+    ensures ok { IfOk result (λ a. set nodes.old.0 path.now bytes.now version (get nodes.old.0 path.now)
+        ≡ Ok (a, nodes.new.0)) }
+    ensures err { IfErr result (IsFault (set nodes.old.0 path.now bytes.now version
+        (get nodes.old.0 path.now))) }
     ensures back { nodes.new.1 ≡ nodes.old.1 }
 {
     match nodes.get(path) {

@@ -1,23 +1,20 @@
-ghost use Rattle.std.specs.Prelude.{◌≡◌, ℕ, ◌==◌, ◌++◌, not, ◌-◌, ◌≤◌, length, IfOk, OnOk, bytes_eq};
-ghost use Rattle.dl_tree.specs.Paths.{name_length, name_of, front_of, parent_of, extended, below, past_below, is_below, digits, root};
+ghost use Rattle.std.specs.Prelude.{◌≡◌, ℕ, ◌==◌, ◌++◌, not, ◌-◌, ◌≤◌, length, IfOk, bytes_eq};
+ghost use Rattle.dl_fields.specs.Digits.{digits};
+ghost use Rattle.dl_fields.specs.Paths.{last_length};
+ghost use Rattle.dl_tree.specs.Paths.{name_of, front_of, parent_of, extended, below, past_below, is_below, root};
 
+use dl_fields::digits::put_digits;
+use dl_fields::path::last_length;
 use dl_types::memory::NoMemory;
 use dl_types::path::Path;
 use std::alloc::Global;
 
-/// How many bytes stand after the last slash.
-fn name_length(path: &[u8]) -> usize
-    ensures { result ≡ name_length path.now }
-{
-    path.iter().rev().take_while(|byte| **byte != b'/').count()
-}
-
 /// Where the last part begins.
 fn name_start(path: &[u8]) -> usize
-    ensures start { result ≡ length path.now - name_length path.now }
+    ensures start { result ≡ length path.now - last_length path.now }
     ensures within { result ≤ length path.now }
 {
-    path.len().saturating_sub(name_length(path))
+    path.len().saturating_sub(last_length(path))
 }
 
 /// The last part, without its slash.
@@ -81,18 +78,6 @@ pub(crate) fn parent(alloc: Global, path: &[u8]) -> Result<Path, NoMemory>
         return Path::new(alloc, b"/");
     }
     Path::new(alloc, &path[..start.saturating_sub(1)])
-}
-
-/// Puts the last digits of a number, so many, at the end.
-fn put_digits(text: &mut Vec<u8>, count: u8, number: u64) -> Result<(), NoMemory>
-    ensures { OnOk result (text.new.items ≡ text.old.items ++ digits count number) }
-{
-    if count == 0 {
-        return Ok(());
-    }
-    put_digits(text, count - 1, number / 10)?;
-    text.push(b'0' + (number % 10) as u8)?;
-    Ok(())
 }
 
 /// The path with ten digits of a number added.

@@ -1,13 +1,7 @@
-use Rattle.std.proofs.Common.{◌∙◌, arith}
-use Rattle.dl_formats.proofs.DecodeLemmas.{decoded_found, node_again, decoded_refused}
+use Rattle.std.proofs.Common.{arith}
+use Rattle.dl_formats.proofs.DecodeLemmas.{decodes}
 use Rattle.dl_formats.proofs.Exactness.{segment_exact}
 use Rattle.dl_formats.proofs.decode.decode_segment.Goals as goal
 
-pub returns-clause-found : goal.returns-clause-found
-returns-clause-found c = decoded_found segment_exact c.args.bytes.now c.node_of.result (λ i. omega (arith, c.type_inv.bytes i)) c.node_of.ensures
-
-pub returns-clause-only : goal.returns-clause-only
-returns-clause-only c = λ x valid spelt. c.node_of.ensures ∙ node_again segment_exact c.args.bytes.now x valid spelt
-
-pub returns-clause-refused : goal.returns-clause-refused
-returns-clause-refused c = decoded_refused segment_exact c.args.bytes.now c.node_of.result c.node_of.ensures
+pub returns : goal.returns
+returns c = decodes segment_exact c.args.bytes.now c.read_node.result (λ i. omega (arith, c.type_inv.bytes i)) c.read_node.ensures

@@ -1,0 +1,9 @@
+pub mod Kinds
+pub mod Versions
+pub mod Rules
+pub mod Requests
+pub mod RequestReading
+pub mod Answers
+pub mod AnswerReading
+pub mod Sizes
+pub mod Laws
