@@ -4,7 +4,7 @@ use Rattle.std.specs.List.{concat}
 use Rattle.std.proofs.lemmas.Bool.{cases_eq, ne_eqb, cond-true, cond-false}
 use Rattle.std.proofs.lemmas.List.{length-take, length-take-le, take_rest, take_min, take-take, take-append-drop, drop-take, append-nil, length-drop, length-append, get_or-set_other, append_assoc}
 use Rattle.std.proofs.lemmas.List.Sums.{sum_by-cons, sum_by-append, sum_by_push}
-use Rattle.dl_types.specs.Ensembles.{upto}
+use Rattle.dl_types.specs.Upto.{upto}
 use Rattle.dl_pool.specs.Pages.{walk, page_after, times, page_bytes, parts_in, HasPage, HasPages, WritesPages}
 
 pub times-cons : (page first : ℕ) (chain : List ℕ) → times page (first ∷ chain) ≡ cond (first == page) 1 0 + times page chain

@@ -3,7 +3,7 @@ use Rattle.std.proofs.Common.{◌≡◌, ◌≢◌, ℕ, zero, suc, ◌+◌, ◌
 use Rattle.std.specs.List.{concat}
 use Rattle.std.proofs.lemmas.Bool.{cases_lt}
 use Rattle.std.proofs.lemmas.List.{length-set, get_or-set_same, get_or-set_other}
-use Rattle.dl_types.specs.Ensembles.{upto}
+use Rattle.dl_types.specs.Upto.{upto}
 use Rattle.dl_pool.specs.Pools.{Adds, bytes_at, pages_of}
 use Rattle.dl_pool.specs.Pages.{walk, page_after, times, parts_in, pages_from, piece_from, held, times_used, pages_used, IsSound}
 use Rattle.dl_pool.proofs.PageLemmas.{pages_of-zero, pages_of-some}

@@ -5,7 +5,7 @@ use Rattle.std.proofs.lemmas.Bool.{cases_lt, cond-true, cond-false, lt-ltb, le-l
 use Rattle.std.proofs.lemmas.List.{append-nil}
 use Rattle.std.proofs.lemmas.List.Concat.{flat_map-append}
 use Rattle.std.proofs.lemmas.List.Sums.{sum_by_push}
-use Rattle.dl_types.specs.Ensembles.{upto}
+use Rattle.dl_types.specs.Upto.{upto}
 use Rattle.dl_pool.specs.Pools.{Held, nothing_held, pages_of}
 use Rattle.dl_pool.specs.Pages.{walk, times, pages_from, pair_at, held, times_used, IsSound}
 use Rattle.dl_pool.proofs.PageLemmas.{pages_of-zero}

@@ -6,7 +6,7 @@ use Rattle.std.proofs.lemmas.Bool.{cases_eq, cases_lt, ne_eqb, cond-true, cond-f
 use Rattle.std.proofs.lemmas.List.{get_or_past, append-nil, length-set, get_or-set_same, get_or-set_other}
 use Rattle.std.proofs.lemmas.List.Concat.{flat_map-append}
 use Rattle.std.proofs.lemmas.List.Sums.{sum_by-append, sum_by-cons, sum_by_push}
-use Rattle.dl_types.specs.Ensembles.{upto}
+use Rattle.dl_types.specs.Upto.{upto}
 use Rattle.dl_pool.specs.Pools.{Adds, look_up, bytes_at, spare, pages_of}
 use Rattle.dl_pool.specs.Pages.{walk, page_after, times, parts_in, pages_from, piece_from, pair_at, held, times_used, pages_used, HasPage, HasPages, WritesPages, IsSound}
 use Rattle.dl_pool.proofs.PageLemmas.{pages_of-zero, pages_of-enough, pages_of-some}

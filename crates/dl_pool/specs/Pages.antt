@@ -2,7 +2,7 @@
 -- free pages are a chain too.
 use Rattle.std.specs.Prelude.{◌≡◌, ℕ, zero, suc, ◌+◌, ◌-◌, ◌*◌, ◌<◌, ◌≤◌, ◌^◌, min, List, [], ◌∷◌, length, sum_by, count_by, take, drop, ◌==◌, nat_lt, if◌then◌else◌, slice_index}
 use Rattle.std.specs.List.{concat, flat_map}
-use Rattle.dl_types.specs.Ensembles.{upto}
+use Rattle.dl_types.specs.Upto.{upto}
 use Rattle.dl_pool.specs.Pools.{Held, pages_of}
 
 -- so many pages of a chain, from this one on
