@@ -1,3 +1,3 @@
-pub mod Sending
+pub mod Answering
 pub mod Facts
 pub mod Standing

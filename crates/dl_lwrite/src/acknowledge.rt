@@ -1,10 +1,11 @@
-ghost use Rattle.std.specs.Prelude.{◌≡◌, ℕ, ◌+◌, ◌^◌, ◌<◌, ◌≤◌, ◌==◌, ◌&&◌, ◌||◌, length, drop, slice_index, if◌then◌else◌, Some, None};
-ghost use Rattle.dl_types.specs.WriteSets.{confirms};
+ghost use Rattle.std.specs.Prelude.{◌≡◌, ℕ, ◌+◌, ◌^◌, ◌<◌, ◌≤◌, ◌==◌, ◌&&◌, length, drop, slice_index, if◌then◌else◌, Some, None};
+ghost use Rattle.dl_quorum.specs.Sizes.{sizes_of};
+ghost use Rattle.dl_quorum.specs.WriteSets.{confirms};
 ghost use Rattle.dl_quorum.specs.Places.{holds};
-ghost use Rattle.dl_rules_ledger.specs.Ensembles.{ensemble_members};
-ghost use Rattle.dl_rules_ledger.specs.Leading.{leading};
+ghost use Rattle.dl_quorum.specs.Pieces.{ensemble_members};
+ghost use Rattle.dl_rules_ledger.specs.Leading.{leading_count};
 ghost use Rattle.dl_rules_ledger.specs.Writers.{is_add_ok, is_add_fenced, or_else};
-ghost use Rattle.dl_lwrite.specs.Sending.{is_at};
+ghost use Rattle.dl_lwrite.specs.Answering.{LeadsTo, is_at, Gains};
 
 use dl_msg::msg::Msg;
 use dl_quorum::place_set::PlaceSet;
@@ -16,8 +17,7 @@ use std::collections::VecDeque;
 /// How many steps round all bookies lead from the ensemble's first bookie to another.
 fn steps_to(ensemble: &Ensemble, bookie: u8) -> u8
     requires { bookie < ensemble.now.bookies }
-    ensures on { ensemble.now.first ≤ bookie → ensemble.now.first + result ≡ bookie }
-    ensures round { bookie < ensemble.now.first → ensemble.now.first + result ≡ bookie + ensemble.now.bookies }
+    ensures { LeadsTo ensemble.now bookie result }
 {
     if ensemble.first <= bookie {
         bookie - ensemble.first
@@ -47,8 +47,7 @@ fn place_of(ensemble: &Ensemble, bookie: u8) -> Option<u8>
 fn note(window: &mut VecDeque<PlaceSet>, at: usize, place: u8)
     requires within { at < length window.old.items }
     requires place { place < 16 }
-    ensures length { length window.new.items ≡ length window.old.items }
-    ensures answers { (i other : ℕ) → holds (slice_index window.new.items i) other ≡ ((i == at && place == other) || holds (slice_index window.old.items i) other) }
+    ensures { Gains 16 (λ i other. i == at && place == other) window.old.items window.new.items }
 {
     let answers = window[at];
     window[at] = answers.with(place);
@@ -58,9 +57,8 @@ fn note(window: &mut VecDeque<PlaceSet>, at: usize, place: u8)
 /// the entry `first`.
 fn note_add(ledger: u64, first: u64, window: &mut VecDeque<PlaceSet>, place: u8, msg: &Msg)
     requires { place < 16 }
-    ensures length { length window.new.items ≡ length window.old.items }
-    ensures answers { (i other : ℕ) → i < length window.old.items → holds (slice_index window.new.items i) other
-        ≡ ((place == other && is_add_ok ledger (first + i) msg.now) || holds (slice_index window.old.items i) other) }
+    ensures { Gains 16 (λ i other. place == other && is_add_ok ledger (first + i) msg.now)
+        window.old.items window.new.items }
 {
     if let Msg::AddOk {
         ledger: named,
@@ -83,9 +81,10 @@ pub(crate) fn acknowledge(
     bookie: u8,
     msg: &Msg,
 )
-    ensures length { length window.new.items ≡ length window.old.items }
-    ensures answers { (i place : ℕ) → i < length window.old.items → place < ensemble.now.e → holds (slice_index window.new.items i) place
-        ≡ ((bookie == slice_index (ensemble_members ensemble.now) place && is_add_ok ledger (first + i) msg.now) || holds (slice_index window.old.items i) place) }
+    ensures { Gains ensemble.now.e
+        (λ i place. bookie == slice_index (ensemble_members ensemble.now) place
+        && is_add_ok ledger (first + i) msg.now)
+        window.old.items window.new.items }
 {
     if let Some(place) = place_of(ensemble, bookie) {
         note_add(ledger, first, window, place, msg);
@@ -108,7 +107,9 @@ pub(crate) fn fenced_after(fenced: Option<u8>, ledger: u64, bookie: u8, msg: &Ms
 /// Takes the entries off the front that have an ack quorum, and says how many they are.
 pub(crate) fn advance(q: Quorum, first: u64, window: &mut VecDeque<PlaceSet>) -> usize
     requires { first + length window.old.items < 2 ^ 64 }
-    ensures passed { result ≡ leading (λ i. confirms q (first + i) (holds (slice_index window.old.items i))) (length window.old.items) }
+    ensures passed { result ≡ leading_count
+        (λ i. confirms (sizes_of q) (first + i) (holds (slice_index window.old.items i)))
+        (length window.old.items) }
     ensures few { result ≤ length window.old.items }
     ensures rest { window.new.items ≡ drop result window.old.items }
 {

@@ -1,7 +1,7 @@
 ghost use Rattle.std.specs.Prelude.{◌≡◌, IfOk, map};
-ghost use Rattle.dl_types.specs.Pieces.{members};
-ghost use Rattle.dl_rules_ledger.specs.Ensembles.{one_piece};
-ghost use Rattle.dl_lwrite.specs.Sending.{add_to};
+ghost use Rattle.dl_quorum.specs.Sizes.{sizes_of};
+ghost use Rattle.dl_quorum.specs.Pieces.{one_piece, ensemble_members, members};
+ghost use Rattle.dl_rules_ledger.specs.Writers.{add_to};
 
 use bytes::Bytes;
 use dl_msg::letters::Told;
@@ -39,7 +39,8 @@ pub(crate) fn adds(
     bytes: &Bytes,
 ) -> Result<Vec<Told>, NoMemory>
     requires { ensemble.now.e ≡ q.e }
-    ensures { IfOk result (λ told. told.items ≡ map (add_to ledger entry count bytes.now) (members (one_piece q ensemble.now) entry)) }
+    ensures { IfOk result (λ told. told.items ≡ map (add_to ledger entry count bytes.now)
+        (members (one_piece (sizes_of q) (ensemble_members ensemble.now)) entry)) }
 {
     let mut told = Vec::with_capacity(alloc, usize::from(q.qw))?;
     for i in 0..q.qw {

@@ -1,183 +1,204 @@
 use crate::send_fault::SendFault;
 use crate::writer::LedgerWriter;
 use bytes::Bytes;
+use dl_msg::letters::{Letters, Told};
 use dl_msg::msg::Msg;
 use dl_types::ensemble::Ensemble;
+use dl_types::memory::NoMemory;
 use dl_types::quorum::Quorum;
 use std::alloc::Global;
 use std::test::Fail;
 
-/// The ledger of the tests: with five bookies its ensemble begins at the last one.
+/// The ledger of the tests: with five bookies its ensemble of four begins at the last one, so that the bookies of its
+/// places are 4, 0, 1 and 2.
 const LEDGER: u64 = 4;
 
-const BOOKIES: u8 = 5;
+/// What stands before the first space, and what stands after it.
+fn cut(text: &str) -> (&str, &str) {
+    text.split_once(' ').unwrap_or((text, ""))
+}
 
-/// A call: what it is, the bookie, the entry.
-type Call = (u8, u8, u8);
-
-/// An entry is sent.
-const SEND: u8 = 0;
-
-/// A bookie acknowledges an entry.
-const OK: u8 = 1;
-
-/// A bookie acknowledges an entry of another ledger.
-const OTHER: u8 = 2;
-
-/// A bookie says that the ledger is fenced.
-const FENCED: u8 = 3;
-
-fn message(call: Call) -> Msg {
-    let (kind, _, entry) = call;
-    let entry = u64::from(entry);
-    match kind {
-        OK => Msg::AddOk {
-            ledger: LEDGER,
-            entry,
-        },
-        OTHER => Msg::AddOk { ledger: 9, entry },
-        _ => Msg::AddFenced {
-            ledger: LEDGER,
-            entry,
-        },
+/// The number of a word, or 0.
+fn number_of(word: &str) -> u8 {
+    match word.parse::<u8>() {
+        Ok(number) => number,
+        Err(_) => 0,
     }
 }
 
-/// A writer of the ledger with ensembles of three, write quorums of two and ack quorums of two.
-fn writer(alloc: Global) -> Result<LedgerWriter, Fail> {
-    let q = Quorum::new(3, 2, 2)?;
-    let ensemble = Ensemble::of(LEDGER, BOOKIES, 3);
-    let writer = LedgerWriter::start(alloc, LEDGER, q, ensemble)?;
+/// Tells a letter with an entry: the bookie, the number of the entry, and the confirmed count that it carries.
+fn tell_letter(out: &mut String, told: &Told) -> Result<(), NoMemory> {
+    let bookie = told.bookie;
+    if let Msg::Add { entry, count, .. } = &told.msg {
+        write!(out, " {bookie}: {entry} {count}")?;
+    }
+    Ok(())
+}
+
+fn tell_letters(out: &mut String, letters: &Letters) -> Result<(), NoMemory> {
+    out.push_str("sent")?;
+    for told in letters.as_slice() {
+        tell_letter(out, told)?;
+    }
+    Ok(())
+}
+
+fn tell_stop(out: &mut String, stop: SendFault) -> Result<(), NoMemory> {
+    match stop {
+        SendFault::Fenced(bookie) => write!(out, "fenced {bookie}")?,
+        SendFault::WindowFull => out.push_str("window full")?,
+        SendFault::NoMemory => return Err(NoMemory),
+    }
+    Ok(())
+}
+
+/// Sends an entry of one byte, where the entries are few.
+fn send(alloc: Global, writer: &mut LedgerWriter, out: &mut String) -> Result<(), NoMemory> {
+    let bytes = Bytes::copy_from_slice(alloc, b"x")?;
+    if writer.sent() >= 1000 {
+        return Err(NoMemory);
+    }
+    match writer.send(bytes) {
+        Ok((_, letters)) => tell_letters(out, &letters),
+        Err(stop) => tell_stop(out, stop),
+    }
+}
+
+/// The message of a verb: an entry is stored, an entry of another ledger is stored, or else the ledger is fenced.
+fn message(verb: &str, entry: u64) -> Msg {
+    if verb == "ok" {
+        Msg::AddOk {
+            ledger: LEDGER,
+            entry,
+        }
+    } else if verb == "other" {
+        Msg::AddOk { ledger: 9, entry }
+    } else {
+        Msg::AddFenced {
+            ledger: LEDGER,
+            entry,
+        }
+    }
+}
+
+/// Hears a message of a bookie on an entry.
+fn hear(
+    writer: &mut LedgerWriter,
+    out: &mut String,
+    verb: &str,
+    rest: &str,
+) -> Result<(), NoMemory> {
+    let (bookie, entry) = cut(rest);
+    let msg = message(verb, u64::from(number_of(entry)));
+    let count = writer.hear(number_of(bookie), &msg);
+    write!(out, "confirmed {count}")?;
+    Ok(())
+}
+
+fn tell_close(out: &mut String, writer: &LedgerWriter) -> Result<(), NoMemory> {
+    match writer.close() {
+        Some(count) => write!(out, "closed at {count}")?,
+        None => out.push_str("open")?,
+    }
+    Ok(())
+}
+
+fn tell_fence(out: &mut String, writer: &LedgerWriter) -> Result<(), NoMemory> {
+    match writer.fenced() {
+        Some(bookie) => write!(out, "fenced {bookie}")?,
+        None => out.push_str("free")?,
+    }
+    Ok(())
+}
+
+/// What a line gives: `send`, `ok BOOKIE ENTRY`, `other BOOKIE ENTRY`, `fenced BOOKIE ENTRY`, `close` or `fence`.
+fn run(alloc: Global, writer: &mut LedgerWriter, line: &str) -> Result<String, NoMemory> {
+    let mut out = String::new(alloc);
+    let (verb, rest) = cut(line);
+    if verb == "send" {
+        send(alloc, writer, &mut out)?;
+    } else if verb == "close" {
+        tell_close(&mut out, writer)?;
+    } else if verb == "fence" {
+        tell_fence(&mut out, writer)?;
+    } else {
+        hear(writer, &mut out, verb, rest)?;
+    }
+    Ok(out)
+}
+
+/// Calls of one writer, with ensembles of four, write quorums of three and ack quorums of two, and after ` => ` what each
+/// gives. A letter is told as its bookie, its entry and the confirmed count that it carries.
+fn rows() -> &'static str {
+    "
+# an entry goes to its write set, and an acknowledgement counts once
+close => closed at 0
+send => sent 4: 0 0 0: 0 0 1: 0 0
+ok 4 0 => confirmed 0
+ok 4 0 => confirmed 0
+close => open
+# it counts of the write set alone, of this ledger alone, and only once the entry is sent
+ok 2 0 => confirmed 0
+ok 3 0 => confirmed 0
+other 0 0 => confirmed 0
+ok 0 1 => confirmed 0
+ok 1 0 => confirmed 1
+ok 0 0 => confirmed 1
+close => closed at 1
+# entries go round the ensemble, and behind a hole none is confirmed
+send => sent 0: 1 1 1: 1 1 2: 1 1
+ok 2 1 => confirmed 1
+send => sent 1: 2 1 2: 2 1 4: 2 1
+send => sent 2: 3 1 4: 3 1 0: 3 1
+ok 1 2 => confirmed 1
+ok 4 2 => confirmed 1
+ok 0 3 => confirmed 1
+ok 0 1 => confirmed 3
+# the first fence is named, and what was sent may still be confirmed
+fence => free
+fenced 2 3 => confirmed 3
+fenced 3 3 => confirmed 3
+fence => fenced 2
+send => fenced 2
+ok 4 3 => confirmed 4
+close => closed at 4
+"
+}
+
+/// A writer of the ledger with ensembles of four, write quorums of three and ack quorums of two.
+fn new_writer(alloc: Global) -> Result<LedgerWriter, Fail> {
+    let q = Quorum::new(4, 3, 2)?;
+    let writer = LedgerWriter::start(alloc, LEDGER, q, Ensemble::of(LEDGER, 5, 4))?;
     Ok(writer)
 }
 
-/// Sends an entry of one byte.
-fn send(alloc: Global, writer: &mut LedgerWriter) -> Result<usize, SendFault> {
-    let bytes = Bytes::copy_from_slice(alloc, b"x")?;
-    if writer.sent() < 1000 {
-        let (_, letters) = writer.send(bytes)?;
-        Ok(letters.as_slice().len())
-    } else {
-        Err(SendFault::NoMemory)
-    }
-}
-
-/// Whether a bookie is one of the two that an entry is sent to.
-fn is_member(entry: u8, bookie: u8) -> bool {
-    let place = u16::from(entry) % 3;
-    let first = (4 + place) % 5;
-    let second = (4 + (place + 1) % 3) % 5;
-    u16::from(bookie) == first || u16::from(bookie) == second
-}
-
-/// Whether a bookie acknowledged an entry in a view, after it was sent.
-fn is_acked(view: &[Call], entry: u8, bookie: u8) -> bool {
-    let mut sent: u8 = 0;
-    for (kind, by, of) in view {
-        if *kind == SEND {
-            sent = sent.saturating_add(1);
-        } else if *kind == OK && *by == bookie && *of == entry && entry < sent {
-            return true;
-        }
-    }
-    false
-}
-
-/// How many of the first entries are confirmed, counted from the whole view.
-fn confirmed(view: &[Call]) -> u8 {
-    let sent = view.iter().filter(|call| call.0 == SEND).count();
-    for entry in 0..100u8 {
-        let acks = (0..BOOKIES)
-            .filter(|bookie| is_member(entry, *bookie) && is_acked(view, entry, *bookie))
-            .count();
-        if usize::from(entry) >= sent || acks < 2 {
-            return entry;
-        }
-    }
-    100
-}
-
-/// Gives the writer a call, and says whether it counts then as the view with the call does.
-fn counts_alike(
-    alloc: Global,
-    writer: &mut LedgerWriter,
-    view: &mut Vec<Call>,
-    call: Call,
-) -> Result<bool, Fail> {
-    if call.0 == SEND {
-        send(alloc, writer)?;
-    } else {
-        writer.hear(call.1, &message(call));
-    }
-    view.push(call)?;
-    Ok(writer.confirmed() == u64::from(confirmed(view)))
-}
-
-/// Acknowledgements twice, from outside the write set, of another ledger, before the entry is sent, and behind a hole; and two
-/// bookies that say that the ledger is fenced. Three bytes are a call.
-const CALLS: [u8; 54] = [
-    0, 0, 0, 1, 4, 0, 1, 4, 0, 1, 1, 0, 2, 0, 0, 1, 0, 0, 0, 0, 0, 1, 1, 1, 0, 0, 0, 1, 1, 2, 1, 4,
-    2, 1, 0, 3, 1, 0, 1, 0, 0, 0, 1, 4, 3, 3, 2, 3, 3, 0, 3, 1, 0, 3,
-];
-
-/// The call at a place of the list.
-fn call_at(calls: &[u8], at: usize) -> Option<Call> {
-    let first = at.checked_mul(3)?;
-    let kind = calls.get(first)?;
-    let bookie = calls.get(first.checked_add(1)?)?;
-    let entry = calls.get(first.checked_add(2)?)?;
-    Some((*kind, *bookie, *entry))
-}
-
-/// How many calls of the list are counted as the whole view does, one after the other.
-fn alike(alloc: Global, writer: &mut LedgerWriter, calls: &[u8]) -> Result<usize, Fail> {
-    let mut view: Vec<Call> = Vec::new(alloc);
-    for at in 0..18usize {
-        if let Some(call) = call_at(calls, at) {
-            if !counts_alike(alloc, writer, &mut view, call)? {
-                return Ok(at);
-            }
-        }
-    }
-    Ok(view.len())
-}
-
 #[test]
-fn counts_as_the_whole_view_does(rt: HostRuntime) -> Result<(), Fail> {
+fn each_row_of_calls(rt: HostRuntime) -> Result<(), Fail> {
     let alloc = rt.alloc();
-    let mut writer = writer(alloc)?;
-    let calls = CALLS;
-    assert_eq!(rt; alike(alloc, &mut writer, &calls)?, 18);
-    assert_eq!(rt; writer.confirmed(), 4);
-    assert_eq!(rt; send(alloc, &mut writer), Err(SendFault::Fenced(2)));
+    let mut writer = new_writer(alloc)?;
+    let mut count = 0u32;
+    for row in rows().lines() {
+        let Some((line, want)) = row.split_once(" => ") else {
+            continue;
+        };
+        let told = run(alloc, &mut writer, line)?;
+        assert_eq!(rt; told.as_str(), want, "at {line}");
+        count = count.saturating_add(1);
+    }
+    assert_eq!(rt; count, 27);
     Ok(())
 }
 
 #[test]
-fn waits_for_an_ack_quorum_of_each_entry(rt: HostRuntime) -> Result<(), Fail> {
+fn keeps_a_window(rt: HostRuntime) -> Result<(), Fail> {
     let alloc = rt.alloc();
-    let q = Quorum::new(3, 3, 2)?;
-    let mut writer = LedgerWriter::start(alloc, LEDGER, q, Ensemble::of(0, 3, 3))?;
-    assert_eq!(rt; send(alloc, &mut writer), Ok(3));
-    assert_eq!(rt; send(alloc, &mut writer), Ok(3));
-    assert_eq!(rt; writer.close(), None);
-    assert_eq!(rt; writer.hear(0, &message((OK, 0, 1))), 0);
-    assert_eq!(rt; writer.hear(1, &message((OK, 1, 1))), 0);
-    assert_eq!(rt; writer.hear(0, &message((OK, 0, 0))), 0);
-    assert_eq!(rt; writer.hear(0, &message((OK, 0, 0))), 0);
-    assert_eq!(rt; writer.hear(1, &message((OK, 1, 0))), 2);
-    assert_eq!(rt; writer.close(), Some(2));
-    Ok(())
-}
-
-#[test]
-fn keeps_a_window_of_64(rt: HostRuntime) -> Result<(), Fail> {
-    let alloc = rt.alloc();
-    let mut writer = writer(alloc)?;
+    let mut writer = new_writer(alloc)?;
     for _ in 0..64 {
-        assert_eq!(rt; send(alloc, &mut writer), Ok(2));
+        let _sent = run(alloc, &mut writer, "send")?;
     }
-    assert_eq!(rt; send(alloc, &mut writer), Err(SendFault::WindowFull));
+    let told = run(alloc, &mut writer, "send")?;
+    assert_eq!(rt; told.as_str(), "window full");
     assert_eq!(rt; writer.sent(), 64);
+    assert_eq!(rt; writer.confirmed(), 0);
     Ok(())
 }

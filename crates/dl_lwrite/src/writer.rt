@@ -1,7 +1,8 @@
-ghost use Rattle.std.specs.Prelude.{◌≡◌, ℕ, ◌+◌, ◌^◌, ◌<◌, None, OnOk, OnErr, IfOk, IfErr};
-ghost use Rattle.dl_rules_ledger.specs.Ensembles.{one_piece};
-ghost use Rattle.dl_rules_ledger.specs.Writers.{WriterView, Sends, Hears, started, called, sent, confirmed, send_stop, adds as add_letters, closing_count};
-ghost use Rattle.dl_lwrite.specs.Standing.{StandsFor, Refuses};
+ghost use Rattle.std.specs.Prelude.{◌≡◌, ◌+◌, ◌^◌, ◌<◌, OnErr, IfOk, IfErr};
+ghost use Rattle.dl_quorum.specs.Sizes.{sizes_of};
+ghost use Rattle.dl_quorum.specs.Pieces.{one_piece, ensemble_members};
+ghost use Rattle.dl_rules_ledger.specs.Writers.{WriterView, Hears, new_view, with_call, sent_count, confirmed_count, fence_bookie, closing_count};
+ghost use Rattle.dl_lwrite.specs.Standing.{StandsFor, IsSending, Refuses};
 
 use crate::acknowledge::{acknowledge, advance, fenced_after};
 use crate::send_fault::SendFault;
@@ -10,15 +11,13 @@ use bytes::Bytes;
 use dl_msg::letters::Letters;
 use dl_msg::msg::Msg;
 use dl_quorum::place_set::PlaceSet;
+use dl_rules_ledger::window::WINDOW;
 use dl_types::ensemble::Ensemble;
 use dl_types::memory::NoMemory;
 use dl_types::quorum::Quorum;
 use std::alloc::Global;
 use std::collections::VecDeque;
 use std::marker::Model;
-
-/// The most entries that are unconfirmed at a time.
-pub const WINDOW: usize = 64;
 
 /// The writer of a ledger. It keeps a set of places for each entry that isn't confirmed yet, so that an answer costs the
 /// same however long the ledger is.
@@ -36,13 +35,27 @@ pub struct LedgerWriter {
 
 impl Model for LedgerWriter {
     ghost use Rattle.std.specs.Prelude.{◌≡◌, ◌+◌, ◌^◌, ◌<◌, ◌≤◌, length};
+    ghost use Rattle.dl_rules_ledger.specs.declared.window.TheConstants.{WINDOW};
     ghost use Rattle.dl_lwrite.specs.Facts.{WriterFacts};
 
     ghost Value = { WriterFacts };
 
-    ghost view = { λ w. record { ledger = w.ledger; q = w.q; ensemble = w.ensemble; sent = w.sent; confirmed = w.confirmed; answers = w.window.items; fenced = w.fenced } };
+    ghost view = { λ w. record {
+      ledger = w.ledger;
+      q = w.q;
+      ensemble = w.ensemble;
+      sent = w.sent;
+      confirmed = w.confirmed;
+      answers = w.window.items;
+      fenced = w.fenced;
+    } };
 
-    ghost invariant = { λ w. (w.ensemble.e ≡ w.q.e) × (w.confirmed + length w.window.items ≡ w.sent) × (w.sent < 2 ^ 64) × (length w.window.items ≤ 64) };
+    ghost invariant = { λ w. record {
+      places : w.ensemble.e ≡ w.q.e;
+      window : w.confirmed + length w.window.items ≡ w.sent;
+      numbers : w.sent < 2 ^ 64;
+      few : length w.window.items ≤ WINDOW;
+    } };
 }
 
 impl LedgerWriter {
@@ -54,7 +67,8 @@ impl LedgerWriter {
         ensemble: Ensemble,
     ) -> Result<LedgerWriter, NoMemory>
         requires { ensemble.e ≡ q.e }
-        ensures { IfOk result (λ w. StandsFor (started ledger (one_piece q ensemble)) w) }
+        ensures { IfOk result
+            (StandsFor (new_view ledger (one_piece (sizes_of q) (ensemble_members ensemble)))) }
     {
         let window = VecDeque::with_capacity(alloc, WINDOW)?;
         Ok(LedgerWriter {
@@ -71,7 +85,7 @@ impl LedgerWriter {
 
     /// How many of the first entries are confirmed.
     pub fn confirmed(&self) -> u64
-        ensures { (v : WriterView) → StandsFor v self.now → result ≡ confirmed v }
+        ensures { (v : WriterView) → StandsFor v self.now → result ≡ confirmed_count v }
     {
         self.confirmed
     }
@@ -79,21 +93,27 @@ impl LedgerWriter {
     /// How many entries were sent.
     pub fn sent(&self) -> u64
         ensures value { result ≡ self.now.sent }
-        ensures view { (v : WriterView) → StandsFor v self.now → result ≡ sent v.calls }
+        ensures view { (v : WriterView) → StandsFor v self.now → result ≡ sent_count v.calls }
     {
         self.sent
     }
 
+    /// The bookie that was the first to say that the ledger is fenced, where one said so.
+    pub fn fenced(&self) -> Option<u8>
+        ensures { (v : WriterView) → StandsFor v self.now → result ≡ fence_bookie v }
+    {
+        self.fenced
+    }
+
     /// Sends the next entry: its number, and the messages to its write set in the order of places, which share its bytes
     /// and carry the confirmed count. `Fenced` comes exactly where a bookie said that the ledger is fenced, and names the
-    /// first one; else `WindowFull` exactly where 64 entries are unconfirmed. After a fault the writer is as before.
+    /// first one; else `WindowFull` exactly where `WINDOW` entries are unconfirmed. After a fault the writer is as before.
     pub fn send(&mut self, bytes: Bytes) -> Result<(u64, Letters), SendFault>
         requires { self.old.sent + 1 < 2 ^ 64 }
-        ensures entry { IfOk result (λ x. (v : WriterView) → StandsFor v self.old → x.0 ≡ sent v.calls) }
-        ensures letters { IfOk result (λ x. (v : WriterView) → StandsFor v self.old → x.1 ≡ add_letters v bytes) }
-        ensures free { OnOk result ((v : WriterView) → StandsFor v self.old → send_stop v ≡ None) }
-        ensures stands { OnOk result ((v : WriterView) → StandsFor v self.old → StandsFor (called v (Sends bytes)) self.new) }
-        ensures refused { IfErr result (λ fault. (v : WriterView) → StandsFor v self.old → Refuses v fault) }
+        ensures sent { IfOk result (λ x. (v : WriterView) → StandsFor v self.old
+            → IsSending v bytes x.0 x.1 self.new) }
+        ensures refused { IfErr result (λ fault. (v : WriterView) → StandsFor v self.old
+            → Refuses v fault) }
         ensures kept { OnErr result (self.new ≡ self.old) }
     {
         if let Some(bookie) = self.fenced {
@@ -120,8 +140,10 @@ impl LedgerWriter {
     /// Hears a message of a bookie, and gives the confirmed count afterwards. It takes no memory. Messages that answer no
     /// entry of this ledger change nothing.
     pub fn hear(&mut self, bookie: u8, msg: &Msg) -> u64
-        ensures stands { (v : WriterView) → StandsFor v self.old → StandsFor (called v (Hears bookie msg.now)) self.new }
-        ensures count { (v : WriterView) → StandsFor v self.old → result ≡ confirmed (called v (Hears bookie msg.now)) }
+        ensures stands { (v : WriterView) → StandsFor v self.old
+            → StandsFor (with_call v (Hears bookie msg.now)) self.new }
+        ensures count { (v : WriterView) → StandsFor v self.old
+            → result ≡ confirmed_count (with_call v (Hears bookie msg.now)) }
         ensures sent { self.new.sent ≡ self.old.sent }
     {
         acknowledge(

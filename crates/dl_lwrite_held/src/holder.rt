@@ -1,6 +1,8 @@
-ghost use Rattle.std.specs.Prelude.{◌≡◌, ℕ, ◌+◌, ◌^◌, ◌<◌, IfOk, OnOk, OnErr};
-ghost use Rattle.dl_rules_ledger.specs.Writers.{confirmed};
-ghost use Rattle.dl_lwrite_held.specs.Holders.{HolderView, HolderStands, Line, Came, after, begun, writer_view};
+ghost use Rattle.std.specs.Prelude.{◌≡◌, ◌+◌, ◌^◌, ◌<◌, IfOk, OnOk, OnErr};
+ghost use Rattle.dl_quorum.specs.Sizes.{sizes_of};
+ghost use Rattle.dl_quorum.specs.Pieces.{one_piece, ensemble_members};
+ghost use Rattle.dl_rules_ledger.specs.Writers.{confirmed_count};
+ghost use Rattle.dl_lwrite_held.specs.Holders.{HolderView, HolderStands, Line, Message, with_input, new_view, writer_view};
 
 use bytes::Bytes;
 use dl_lwrite::send_fault::SendFault;
@@ -38,7 +40,8 @@ impl Holder {
         ensemble: Ensemble,
     ) -> Result<Holder, NoMemory>
         requires { ensemble.e ≡ q.e }
-        ensures { IfOk result (λ h. HolderStands (begun number ledger q ensemble) h) }
+        ensures { let pieces = one_piece (sizes_of q) (ensemble_members ensemble) in
+            IfOk result (HolderStands (new_view number ledger pieces)) }
     {
         let writer = LedgerWriter::start(alloc, ledger, q, ensemble)?;
         Ok(Holder { number, writer })
@@ -47,16 +50,19 @@ impl Holder {
     /// Sends an entry, by a line of this client.
     pub fn line(&mut self, bytes: Bytes) -> Result<(u64, Letters), SendFault>
         requires { self.old.writer.sent + 1 < 2 ^ 64 }
-        ensures stands { OnOk result ((v : HolderView) → HolderStands v self.old → HolderStands (after v (Line bytes)) self.new) }
+        ensures stands { OnOk result ((v : HolderView) → HolderStands v self.old
+            → HolderStands (with_input v (Line bytes)) self.new) }
         ensures kept { OnErr result (self.new ≡ self.old) }
     {
         self.writer.send(bytes)
     }
 
     /// Takes a message of a bookie, and gives the writer's confirmed count.
-    pub fn came(&mut self, bookie: u8, msg: &Msg) -> u64
-        ensures stands { (v : HolderView) → HolderStands v self.old → HolderStands (after v (Came bookie msg.now)) self.new }
-        ensures count { (v : HolderView) → HolderStands v self.old → result ≡ confirmed (writer_view (after v (Came bookie msg.now))) }
+    pub fn message(&mut self, bookie: u8, msg: &Msg) -> u64
+        ensures stands { (v : HolderView) → HolderStands v self.old
+            → HolderStands (with_input v (Message bookie msg.now)) self.new }
+        ensures count { (v : HolderView) → HolderStands v self.old
+            → result ≡ confirmed_count (writer_view (with_input v (Message bookie msg.now))) }
     {
         self.writer.hear(bookie, msg)
     }

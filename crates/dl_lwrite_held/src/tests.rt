@@ -13,6 +13,6 @@ fn holds_a_writer(rt: HostRuntime) -> Result<(), Fail> {
         ledger: 7,
         entry: 0,
     };
-    assert_eq!(rt; holder.came(0, &msg), 0);
+    assert_eq!(rt; holder.message(0, &msg), 0);
     Ok(())
 }

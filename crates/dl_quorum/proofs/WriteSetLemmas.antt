@@ -19,7 +19,7 @@ unfolding write_set
 length-write_set q entry = length-map (upto q.qw) _ ∙ length-upto q.qw
 
 -- a step of less than a whole round leads elsewhere
-moved : (r d e : ℕ) → r < e → 0 < d → d < e → (r + d) % e ≢ r
+pub moved : (r d e : ℕ) → r < e → 0 < d → d < e → (r + d) % e ≢ r
 moved r d e within some less same = go (cases_lt (r + d) e)
   where
     go : ((r + d) < e) ⊎ (e ≤ (r + d)) → ⊥
@@ -30,7 +30,8 @@ moved r d e within some less same = go (cases_lt (r + d) e)
         let stays : (r + d - e) % e ≡ r + d - e = mod-eq_of_lt low in
         omega (arith, same)
 
-places_differ : (entry e i j : ℕ) → i < j → j < e → (entry + i) % e ≢ (entry + j) % e
+-- different steps of less than a whole round lead to different places
+pub places_differ : (entry e i j : ℕ) → i < j → j < e → (entry + i) % e ≢ (entry + j) % e
 places_differ entry e i j before within same =
     let some : 0 < e = omega arith in
     let split : entry + i + (j - i) ≡ entry + j = omega arith in

@@ -1,41 +1,63 @@
 -- The laws of a ledger's writer.
-use Rattle.std.specs.Prelude.{◌≡◌, ◌≢◌, ℕ, ◌%◌, ◌<◌, ◌≤◌, true, List, Some, AllPairs, count_by}
+use Rattle.std.specs.Prelude.{◌≡◌, ◌≢◌, ℕ, ◌%◌, ◌<◌, ◌≤◌, true, List, length, Some, AllPairs, count_by}
 use Rattle.std.specs.List.{AllByRecursion}
-use Rattle.dl_types.specs.declared.quorum.Quorum.{Quorum}
 use Rattle.dl_types.specs.declared.ensemble.Ensemble.{Ensemble}
-use Rattle.dl_types.specs.Pieces.{members, ring}
+use Rattle.dl_quorum.specs.Sizes.{Sizes, AreSizes}
+use Rattle.dl_quorum.specs.Pieces.{Pieces, members, piece_of, ensemble_members, one_piece, ring}
 use Rattle.dl_record.specs.Grammar.{IsEntryBytes}
 use Rattle.dl_msg.specs.Whole.{IsWhole}
-use Rattle.dl_rules_ledger.specs.Ensembles.{one_piece}
-use Rattle.dl_rules_ledger.specs.Writers.{WriterCall, WriterView, called, sent, acked, is_acked_by, confirmed, fenced_by, adds}
+use Rattle.dl_rules_ledger.specs.Writers.{WriterCall, WriterView, with_call, sent_count, has_acked, has_ack_quorum, confirmed_count, fence_bookie, add_letters}
 
--- The confirmed count is at most that of the entries sent, each entry below it has an ack quorum, and it is the greatest
--- such number.
+-- the confirmed count is at most that of the entries sent, each entry below it has an ack quorum, and it is the greatest
+-- such number
 pub record IsGreatest (v : WriterView) : Type 0 where
-  pub within : confirmed v ≤ sent v.calls
-  pub below : (entry : ℕ) → entry < confirmed v → is_acked_by v entry ≡ true
-  pub greatest : (n : ℕ) → n ≤ sent v.calls → ((entry : ℕ) → entry < n → is_acked_by v entry ≡ true) → n ≤ confirmed v
+  pub within : confirmed_count v ≤ sent_count v.calls
+  pub below : (entry : ℕ) → entry < confirmed_count v → has_ack_quorum v entry ≡ true
+  pub greatest : (n : ℕ) → n ≤ sent_count v.calls
+      → ((entry : ℕ) → entry < n → has_ack_quorum v entry ≡ true) → n ≤ confirmed_count v
 
+-- of each writer
 abbrev pub ConfirmedIsGreatest : Type 0
 ConfirmedIsGreatest = (v : WriterView) → IsGreatest v
 
+-- no call takes a confirmation back
 abbrev pub ConfirmedNeverFalls : Type 0
-ConfirmedNeverFalls = (v : WriterView) (call : WriterCall) → confirmed v ≤ confirmed (called v call)
+ConfirmedNeverFalls = (v : WriterView) (call : WriterCall) → confirmed_count v ≤ confirmed_count (with_call v call)
 
 -- an ack quorum of the write set of each confirmed entry has acknowledged it
-abbrev pub AcksAreOfDifferentBookies : Type 0
-AcksAreOfDifferentBookies = (v : WriterView) (entry : ℕ) → entry < confirmed v → v.pieces.q.qa ≤ count_by (acked v.ledger v.calls entry) (members v.pieces entry)
+abbrev pub AcksAreOfAQuorum : Type 0
+AcksAreOfAQuorum =
+    (v : WriterView) (entry : ℕ) → entry < confirmed_count v
+    → v.pieces.q.qa ≤ count_by (has_acked v.ledger v.calls entry) (members v.pieces entry)
 
--- the bookies of each write set of an ensemble differ
+-- where the bookies of an entry's piece differ, and are as many as the sizes say, those of its write set differ
 abbrev pub MembersDiffer : Type 0
-MembersDiffer = (q : Quorum) (x : Ensemble) (entry : ℕ) → x.e ≡ q.e → AllPairs (λ a b. a ≢ b) (members (one_piece q x) entry)
+MembersDiffer =
+    (w : Pieces) (entry : ℕ) → AreSizes w.q → length (piece_of w entry).members ≡ w.q.e
+    → AllPairs (λ a b. a ≢ b) (piece_of w entry).members → AllPairs (λ a b. a ≢ b) (members w entry)
 
+-- an ensemble has as many bookies as it says, and they differ
+pub record HasBookies (x : Ensemble) : Type 0 where
+  pub size : length (ensemble_members x) ≡ x.e
+  pub differ : AllPairs (λ a b. a ≢ b) (ensemble_members x)
+
+-- so of each ensemble
+abbrev pub EnsemblesDiffer : Type 0
+EnsemblesDiffer = (x : Ensemble) → HasBookies x
+
+-- an ensemble that begins as the ledger's number says is the ledger's ring
 abbrev pub RingsAreEnsembles : Type 0
-RingsAreEnsembles = (q : Quorum) (x : Ensemble) (ledger : ℕ) → x.e ≡ q.e → x.first ≡ ledger % x.bookies → one_piece q x ≡ ring ledger x.bookies q
+RingsAreEnsembles =
+    (q : Sizes) (x : Ensemble) (ledger : ℕ) → x.e ≡ q.e → x.first ≡ ledger % x.bookies
+    → one_piece q (ensemble_members x) ≡ ring ledger x.bookies q
 
+-- the bookie that fenced a writer stays the one that is named
 abbrev pub FencesStay : Type 0
-FencesStay = (ledger b : ℕ) (call : WriterCall) (v : WriterView) → fenced_by ledger v.calls ≡ Some b → fenced_by ledger (called v call).calls ≡ Some b
+FencesStay =
+    (v : WriterView) (call : WriterCall) (b : ℕ) → fence_bookie v ≡ Some b → fence_bookie (with_call v call) ≡ Some b
 
 -- where an entry's bytes are sent, each message that carries them is whole
 abbrev pub AddsAreWhole : Type 0
-AddsAreWhole = (v : WriterView) (bytes : List ℕ) → IsEntryBytes bytes → AllByRecursion (λ told. IsWhole told.msg) (adds v bytes)
+AddsAreWhole =
+    (v : WriterView) (bytes : List ℕ) → IsEntryBytes bytes
+    → AllByRecursion (λ told. IsWhole told.msg) (add_letters v bytes)

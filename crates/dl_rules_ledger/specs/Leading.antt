@@ -2,6 +2,6 @@
 use Rattle.std.specs.Prelude.{ℕ, zero, suc, Bool, cond, ◌&&◌, ◌==◌}
 
 -- how many of the first n numbers pass, up to the first that doesn't
-abbrev pub leading : (ℕ → Bool) → ℕ → ℕ
-leading p zero = 0
-leading p (suc n) = cond (leading p n == n && p n) (suc n) (leading p n)
+abbrev pub leading_count : (ℕ → Bool) → ℕ → ℕ
+leading_count p zero = 0
+leading_count p (suc n) = cond (leading_count p n == n && p n) (suc n) (leading_count p n)

@@ -1,4 +1,3 @@
-pub mod Ensembles
 pub mod Leading
 pub mod Writers
 pub mod Laws

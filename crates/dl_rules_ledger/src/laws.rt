@@ -1,6 +1,6 @@
 //! What holds of a ledger's writer, for each list of calls: laws on their definitions, with no code.
 
-ghost use Rattle.dl_rules_ledger.specs.Laws.{ConfirmedIsGreatest, ConfirmedNeverFalls, AcksAreOfDifferentBookies, MembersDiffer, RingsAreEnsembles, FencesStay, AddsAreWhole};
+ghost use Rattle.dl_rules_ledger.specs.Laws.{ConfirmedIsGreatest, ConfirmedNeverFalls, AcksAreOfAQuorum, MembersDiffer, EnsemblesDiffer, RingsAreEnsembles, FencesStay, AddsAreWhole};
 
 /// The confirmed count is the greatest number, at most that of the entries sent, below which each entry has an ack quorum.
 pub fn confirmed_is_greatest()
@@ -12,11 +12,12 @@ pub fn confirmed_never_falls()
     ensures { ConfirmedNeverFalls }
 {}
 
-/// The bookies of a write set differ, so that each confirmed entry was acknowledged by an ack quorum of different bookies of
-/// its write set.
+/// Each confirmed entry was acknowledged by an ack quorum of different bookies of its write set: the bookies of a write set
+/// differ where those of its piece do, and those of an ensemble differ.
 pub fn acks_are_of_different_bookies()
-    ensures acks { AcksAreOfDifferentBookies }
+    ensures acks { AcksAreOfAQuorum }
     ensures members { MembersDiffer }
+    ensures ensembles { EnsemblesDiffer }
 {}
 
 /// The one piece of a writer's ensemble is the ledger's ring, where the ensemble begins as the ledger's number says.

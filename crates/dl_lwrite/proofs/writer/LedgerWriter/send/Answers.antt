@@ -1,5 +1,5 @@
-use Rattle.std.proofs.Common.{◌+◌, subst, sym, ◌∙◌, arith}
-use Rattle.dl_rules_ledger.specs.Writers.{called, Sends}
+use Rattle.std.proofs.Common.{ℕ, ◌+◌, List, subst, sym, ◌∙◌, arith}
+use Rattle.dl_rules_ledger.specs.Writers.{with_call, Sends}
 use Rattle.dl_lwrite.specs.Facts.{WriterFacts}
 use Rattle.dl_lwrite.specs.Standing.{StandsFor}
 use Rattle.dl_lwrite.specs.contracts.writer.LedgerWriter.{the_view}
@@ -10,17 +10,19 @@ pub returns-in-Some-clause-refused : goal.returns-in-Some-clause-refused
 returns-in-Some-clause-refused c v h = stop_fenced v (the_view c.self.inside) (subst (StandsFor v) (sym c.self.view_is) h) c.in-Some.bookie c.in-Some.is
 
 pub returns-then-len-ge-WINDOW-clause-refused : goal.returns-then-len-ge-WINDOW-clause-refused
-returns-then-len-ge-WINDOW-clause-refused c v h = stop_full v (the_view c.self.inside) (subst (StandsFor v) (sym c.self.view_is) h) c.self.invariant.1 c.in_default.is (omega (arith, c.if-len-ge-WINDOW.true, c.len.ensures))
+returns-then-len-ge-WINDOW-clause-refused c v h =
+    stop_full v (the_view c.self.inside) (subst (StandsFor v) (sym c.self.view_is) h) c.self.invariant.window c.in_default.is
+    (omega (arith, c.if-len-ge-WINDOW.true, c.len.ensures))
 
-pub returns-clause-letters : goal.returns-clause-letters
-returns-clause-letters c v h = c.from_vec.ensures ∙ c.in_ok-told.ensures ∙ letters_are v (the_view c.self.inside) (subst (StandsFor v) (sym c.self.view_is) h) c.args.bytes
-
-pub returns-clause-free : goal.returns-clause-free
-returns-clause-free c v h = stop_none v (the_view c.self.inside) (subst (StandsFor v) (sym c.self.view_is) h) c.self.invariant.1 c.in_default.is (omega (arith, c.if-len-ge-WINDOW.false, c.len.ensures))
-
-pub returns-clause-stands : goal.returns-clause-stands
-returns-clause-stands c v h =
+pub returns-clause-sent : goal.returns-clause-sent
+returns-clause-sent c v h =
     let w : WriterFacts = the_view c.self.inside in
     let now : StandsFor v w = subst (StandsFor v) (sym c.self.view_is) h in
-    subst (λ xs. StandsFor (called v (Sends c.args.bytes)) (record w { sent = w.sent + 1; answers = xs })) (sym c.in_ok-push_back.ensures.items)
-    (stands_sent v w now c.self.invariant.1 c.args.bytes c.empty.result c.empty.ensures.members)
+    record {
+      free = stop_none v w now c.self.invariant.window c.in_default.is (omega (arith, c.if-len-ge-WINDOW.false, c.len.ensures));
+      entry = now.sent;
+      letters = c.from_vec.ensures ∙ c.in_ok-told.ensures ∙ letters_are v w now c.args.bytes;
+      stands = subst (λ xs. StandsFor (with_call v (Sends c.args.bytes)) (record w { sent = w.sent + 1; answers = xs }))
+          (sym {A = List ℕ} c.in_ok-push_back.ensures.items)
+          (stands_sent v w now c.self.invariant.window c.args.bytes c.empty.result c.empty.ensures.members);
+    }
