@@ -1,7 +1,7 @@
 -- One text after another, given to a sink.
-use Rattle.std.proofs.Common.{ℕ, ◌+◌, ◌-◌, ◌^◌, ◌≤◌, min, List, ◌++◌, arith}
+use Rattle.std.proofs.Common.{ℕ, ◌≤◌, List, ◌++◌, arith}
 use Rattle.std.specs.Prelude.{Option, Result, Ok, Err, OnErr}
-use Rattle.dl_io.specs.Causes.{Rose, HasCause}
+use Rattle.dl_io.specs.Causes.{Rose}
 use Rattle.dl_io.specs.Sinks.{Writes}
 use Rattle.dl_io.proofs.Pieces.{appends_after, front_after, front_of_longer, keeps_amount_more}
 

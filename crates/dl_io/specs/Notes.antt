@@ -1,5 +1,5 @@
 -- The line that a program notes when it ends badly.
-use Rattle.std.specs.Prelude.{◌≡◌, ℕ, List, [], ◌++◌, Option, codes, decimal}
+use Rattle.std.specs.Prelude.{◌≡◌, ℕ, List, [], ◌++◌, Option, codes}
 use Rattle.std.specs.Io.KnownBytes.{Appends}
 use Rattle.dl_types.specs.declared.limit.LimitName.{LimitName}
 use Rattle.dl_types.specs.declared.refusal.Refusal.{Refusal}

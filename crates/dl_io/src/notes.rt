@@ -19,7 +19,6 @@ use dl_types::status::Status;
 use itoa::Buffer;
 
 /// Gives one text after another.
-#[tactic(auto, using(crate::proofs::WriteLemmas::writes_then, crate::proofs::WriteLemmas::writes_stopped))]
 fn write_both<K: Sink>(sink: &mut K, first: &[u8], second: &[u8]) -> Result<(), WriteFailed>
     ensures { Writes (K.held sink.old) (K.held sink.new) (K.finished sink.old) (K.finished sink.new)
         (K.write_faults sink.old) (K.write_faults sink.new) (first.now ++ second.now) result }
@@ -46,7 +45,6 @@ fn write_number<K: Sink>(sink: &mut K, end: u8, value: u64) -> Result<(), WriteF
 }
 
 /// Gives a text, and a number behind it.
-#[tactic(auto, using(crate::proofs::WriteLemmas::writes_then, crate::proofs::WriteLemmas::writes_stopped))]
 fn write_word_number<K: Sink>(
     sink: &mut K,
     text: &[u8],
@@ -61,7 +59,6 @@ fn write_word_number<K: Sink>(
 }
 
 /// Gives two texts with a number behind each, to the end of the line.
-#[tactic(auto, using(crate::proofs::WriteLemmas::writes_then, crate::proofs::WriteLemmas::writes_stopped))]
 fn write_two_numbers<K: Sink>(
     sink: &mut K,
     first: &[u8],
@@ -77,7 +74,6 @@ fn write_two_numbers<K: Sink>(
 }
 
 /// Gives the last two numbers of a place.
-#[tactic(auto, using(crate::proofs::WriteLemmas::writes_then, crate::proofs::WriteLemmas::writes_stopped))]
 fn write_entry_slot<K: Sink>(sink: &mut K, place: &Dlsn) -> Result<(), WriteFailed>
     ensures { Writes (K.held sink.old) (K.held sink.new) (K.finished sink.old) (K.finished sink.new)
         (K.write_faults sink.old) (K.write_faults sink.new) (number colon place.now.entry ++ number line_feed place.now.slot) result }
@@ -87,7 +83,6 @@ fn write_entry_slot<K: Sink>(sink: &mut K, place: &Dlsn) -> Result<(), WriteFail
 }
 
 /// Gives a place, to the end of the line.
-#[tactic(auto, using(crate::proofs::WriteLemmas::writes_then, crate::proofs::WriteLemmas::writes_stopped))]
 fn write_place<K: Sink>(sink: &mut K, place: &Dlsn) -> Result<(), WriteFailed>
     ensures { Writes (K.held sink.old) (K.held sink.new) (K.finished sink.old) (K.finished sink.new)
         (K.write_faults sink.old) (K.write_faults sink.new) (place_field line_feed place.now) result }
@@ -97,7 +92,6 @@ fn write_place<K: Sink>(sink: &mut K, place: &Dlsn) -> Result<(), WriteFailed>
 }
 
 /// Gives a path and a version behind it, to the end of the line.
-#[tactic(auto, using(crate::proofs::WriteLemmas::writes_then, crate::proofs::WriteLemmas::writes_stopped))]
 fn write_moved<K: Sink>(sink: &mut K, path: &[u8], version: u64) -> Result<(), WriteFailed>
     ensures { Writes (K.held sink.old) (K.held sink.new) (K.finished sink.old) (K.finished sink.new)
         (K.write_faults sink.old) (K.write_faults sink.new) (bytes_field space path.now ++ number line_feed version) result }
@@ -107,7 +101,6 @@ fn write_moved<K: Sink>(sink: &mut K, path: &[u8], version: u64) -> Result<(), W
 }
 
 /// Gives two numbers, to the end of the line.
-#[tactic(auto, using(crate::proofs::WriteLemmas::writes_then, crate::proofs::WriteLemmas::writes_stopped))]
 fn write_pair<K: Sink>(sink: &mut K, one: u64, other: u64) -> Result<(), WriteFailed>
     ensures { Writes (K.held sink.old) (K.held sink.new) (K.finished sink.old) (K.finished sink.new)
         (K.write_faults sink.old) (K.write_faults sink.new) (number space one ++ number line_feed other) result }
@@ -140,7 +133,6 @@ fn write_rest<K: Sink>(sink: &mut K, refusal: &Refusal) -> Result<(), WriteFaile
 }
 
 /// Gives what a line says of a refusal, to the end of the line.
-#[tactic(auto, using(crate::proofs::WriteLemmas::writes_then, crate::proofs::WriteLemmas::writes_stopped))]
 fn write_refusal<K: Sink>(sink: &mut K, refusal: &Refusal) -> Result<(), WriteFailed>
     ensures { Writes (K.held sink.old) (K.held sink.new) (K.finished sink.old) (K.finished sink.new)
         (K.write_faults sink.old) (K.write_faults sink.new) (refusal_field refusal.now) result }
@@ -150,7 +142,6 @@ fn write_refusal<K: Sink>(sink: &mut K, refusal: &Refusal) -> Result<(), WriteFa
 }
 
 /// Gives what a note says of a refusal, to the end of the line.
-#[tactic(auto, using(crate::proofs::WriteLemmas::writes_then, crate::proofs::WriteLemmas::writes_stopped))]
 fn write_refused<K: Sink>(sink: &mut K, refusal: &Refusal) -> Result<(), WriteFailed>
     ensures { Writes (K.held sink.old) (K.held sink.new) (K.finished sink.old) (K.finished sink.new)
         (K.write_faults sink.old) (K.write_faults sink.new) (refused refusal.now) result }
@@ -160,7 +151,6 @@ fn write_refused<K: Sink>(sink: &mut K, refusal: &Refusal) -> Result<(), WriteFa
 }
 
 /// Gives what a note says of a limit, to the end of the line.
-#[tactic(auto, using(crate::proofs::WriteLemmas::writes_then, crate::proofs::WriteLemmas::writes_stopped))]
 fn write_limit<K: Sink>(sink: &mut K, name: LimitName, number: u64) -> Result<(), WriteFailed>
     ensures { Writes (K.held sink.old) (K.held sink.new) (K.finished sink.old) (K.finished sink.new)
         (K.write_faults sink.old) (K.write_faults sink.new) (limit_past name number) result }
@@ -209,7 +199,6 @@ fn write_text<K: Sink>(sink: &mut K, status: &Status) -> Result<(), WriteFailed>
 }
 
 /// Gives the whole line of a status.
-#[tactic(auto, using(crate::proofs::WriteLemmas::writes_then, crate::proofs::WriteLemmas::writes_stopped))]
 fn write_line<K: Sink>(sink: &mut K, status: &Status) -> Result<(), WriteFailed>
     ensures { Writes (K.held sink.old) (K.held sink.new) (K.finished sink.old) (K.finished sink.new)
         (K.write_faults sink.old) (K.write_faults sink.new) (note_line status.now) result }

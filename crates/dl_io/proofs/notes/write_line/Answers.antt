@@ -1,0 +1,13 @@
+use Rattle.std.proofs.Common.{codes}
+use Rattle.std.proofs.lemmas.Result.{err_from_is_err_and}
+use Rattle.dl_io.specs.Notes.{note_text}
+use Rattle.dl_io.proofs.WriteLemmas.{writes_then, writes_stopped}
+use Rattle.dl_io.proofs.notes.write_line.Goals as goal
+
+pub returns-in_err-write_all : goal.returns-in_err-write_all
+returns-in_err-write_all g c =
+    let p = err_from_is_err_and c.from_residual.result c.from_residual.ensures.1 in
+    rw p.1 (writes_stopped _ _ _ _ _ _ (codes "dlog: ") (note_text c.args.status.now) _ _ c.in_err-write_all.ensures)
+
+pub returns : goal.returns
+returns g c = writes_then _ _ _ _ _ _ _ _ _ (codes "dlog: ") (note_text c.args.status.now) _ _ c.in_ok-write_all.ensures c.write_text.ensures
