@@ -1,5 +1,5 @@
 -- What a decoder says, where the fields of its node are read exactly.
-use Rattle.std.proofs.Common.{◌≡◌, ℕ, ◌<◌, ◌^◌, nat_le, ◌&&◌, true, List, ◌++◌, length, Result, Ok, Err, IfOk, IfErr, refl, sym, ap, ◌∙◌, arith, lit<, lit≤}
+use Rattle.std.proofs.Common.{◌≡◌, ℕ, ◌<◌, ◌^◌, nat_le, ◌&&◌, true, List, ◌++◌, length, Result, Ok, Err, refl, sym, ap, ◌∙◌, arith, lit<, lit≤}
 use Rattle.std.specs.Int.{Width, byte_len, w8, w64}
 use Rattle.std.proofs.lemmas.Bool.{and_parts, and_from, leb-true, le-leb}
 use Rattle.dl_codec.specs.Fields.{field, IsBytes, HasOneSpelling}

@@ -1,5 +1,5 @@
 -- Kinds of messages, and what a bookie has too little of, are read exactly.
-use Rattle.std.proofs.Common.{◌<◌, refl, lit<}
+use Rattle.std.proofs.Common.{refl, lit<}
 use Rattle.dl_fields.specs.Readers.{Exact}
 use Rattle.dl_fields.specs.Codes.{code_byte, code_from}
 use Rattle.dl_fields.proofs.KindLemmas.{Coded, kinds_exact}

@@ -1,5 +1,5 @@
 -- Messages are read exactly.
-use Rattle.std.proofs.Common.{◌≡◌, ℕ, Bool, true, false, List, length, Ok, Err, refl, sym, ap, ◌∙◌}
+use Rattle.std.proofs.Common.{◌≡◌, ℕ, Bool, true, false, List, Ok, Err, refl, sym, ap, ◌∙◌}
 use Rattle.std.specs.Int.{w32, w64}
 use Rattle.dl_codec.specs.Fields.{IsBytes}
 use Rattle.dl_fields.specs.declared.fault.Fault.{Fault}

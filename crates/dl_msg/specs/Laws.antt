@@ -5,7 +5,6 @@ use Rattle.dl_fields.specs.Readers.{Exact}
 use Rattle.dl_record.specs.Grammar.{IsEntryBytes}
 use Rattle.dl_msg.specs.declared.meta_reply.MetaReply.{MetaReply}
 use Rattle.dl_msg.specs.declared.resource.Resource.{Resource}
-use Rattle.dl_msg.specs.declared.msg.Msg.{Msg}
 use Rattle.dl_msg.specs.declared.msg.Msg.TheVariants as msg
 use Rattle.dl_msg.specs.Messages.{msg_bytes, IsMsg}
 use Rattle.dl_msg.specs.Reading.{msg_from}

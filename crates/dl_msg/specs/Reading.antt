@@ -1,5 +1,5 @@
 -- Reading messages.
-use Rattle.std.specs.Prelude.{◌≡◌, ℕ, ◌-◌, Bool, true, false, List, length, Result, Ok, Err, ◌⊎◌}
+use Rattle.std.specs.Prelude.{◌≡◌, ℕ, ◌-◌, Bool, true, false, List, length, Result, Err, ◌⊎◌}
 use Rattle.std.specs.Int.{w32, w64}
 use Rattle.dl_fields.specs.declared.fault.Fault.{Fault}
 use Rattle.dl_fields.specs.declared.fault.Fault.TheVariants as fields

@@ -1,6 +1,5 @@
 -- Kinds and versions are read exactly.
-use Rattle.std.proofs.Common.{◌≡◌, ℕ, ◌<◌, Bool, true, false, List, [], ◌++◌, Option, Some, None, Result, Ok, Err, refl, sym, ap, subst, lit<}
-use Rattle.std.specs.List.{Contains}
+use Rattle.std.proofs.Common.{◌≡◌, ℕ, Bool, true, false, Option, Some, None, refl, lit<}
 use Rattle.std.specs.Int.{w64}
 use Rattle.dl_fields.specs.Readers.{map_from, Exact}
 use Rattle.dl_fields.specs.Fields.{Fits}

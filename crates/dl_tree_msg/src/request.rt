@@ -181,7 +181,8 @@ fn read_op_items(
     count: u16,
     bytes: &[u8],
 ) -> Result<(Vec<OneOp>, &[u8]), Stop>
-    ensures { Gives (λ x. (x.0.items, x.1.now)) result (items_from (op_from (allows rule)) count bytes.now) }
+    ensures { Gives (λ x. (x.0.items, x.1.now)) result (items_from (op_from
+        (allows rule)) count bytes.now) }
 {
     let mut items = Vec::new(alloc);
     let mut rest = bytes;
@@ -255,7 +256,9 @@ fn put_create(
 ) -> Result<(), NoMemory>
     requires path { IsNewPath mode path.now }
     requires bytes { IsCounted w32 bytes.now }
-    ensures { OnOk result (out.new.items ≡ out.old.items ++ (code_byte mode_field_code (mode_field mode) ++ (counted w16 path.now ++ counted w32 bytes.now))) }
+    ensures { OnOk result (out.new.items ≡ out.old.items
+        ++ (code_byte mode_field_code (mode_field mode) ++ (counted w16 path.now
+        ++ counted w32 bytes.now))) }
 {
     let field = ModeField { mode };
     put_u8(alloc, out, field.code())?;
@@ -354,7 +357,8 @@ pub fn put_request(alloc: Global, out: &mut Vec<u8>, op: &MetaOp) -> Result<(), 
 fn size_of_create(path: &Path, bytes: &Body, mode: Mode) -> u64
     requires path { IsNewPath mode path.now }
     requires bytes { IsCounted w32 bytes.now }
-    ensures exact { result ≡ length (code_byte mode_field_code (mode_field mode) ++ (counted w16 path.now ++ counted w32 bytes.now)) }
+    ensures exact { result ≡ length (code_byte mode_field_code (mode_field mode) ++ (counted w16 path.now
+        ++ counted w32 bytes.now)) }
     ensures bound { result ≤ max_op_rest }
 {
     size_of_run_u16(path.as_slice()) + size_of_run_u32(bytes.as_slice()) + 1

@@ -1,4 +1,4 @@
-use Rattle.std.proofs.Common.{◌≡◌, ◌++◌, arith}
+use Rattle.std.proofs.Common.{arith}
 use Rattle.dl_tree_msg.specs.Rules.{allows}
 use Rattle.dl_tree_msg.proofs.RequestLemmas.{request_exact}
 use Rattle.dl_tree_msg.proofs.request.read_request.Goals as goal
