@@ -1,3 +1,6 @@
 pub mod Leading
 pub mod Writers
 pub mod Laws
+pub mod Subjects
+pub mod Recoveries
+pub mod Readers
