@@ -1,7 +1,7 @@
 -- The lines of a schedule: the one spelling of each step, and which steps the lines of an early schedule may say.
 use Rattle.std.specs.Prelude.{◌≡◌, ℕ, Option, Some, None, List, [], ◌∷◌, ◌++◌, codes, ◌==◌, if◌then◌else◌}
-pub use Rattle.dl_types.specs.declared.txid.TheConstants.{MAX_TXID}
-use Rattle.dl_text.specs.Ends.{space, line_feed}
+use Rattle.dl_types.specs.declared.txid.TheConstants.{MAX_TXID}
+pub use Rattle.dl_text.specs.Ends.{space, line_feed}
 use Rattle.dl_text.specs.Numbers.{number, IsWithin}
 use Rattle.dl_text.specs.Hex.{hex, AllBytes}
 use Rattle.dl_schedule.specs.declared.step.Step.{Step}

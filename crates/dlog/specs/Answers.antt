@@ -57,6 +57,15 @@ end_of status.ReadFault = None
 end_of status.WriteFault = None
 end_of (status.Limit name number) = Some (Limit name number)
 end_of status.NoMemory = None
+end_of (status.DeviceFault file) = None
+end_of status.NotInitialised = None
+end_of (status.Damaged file at) = None
+end_of status.NoStream = None
+end_of status.StreamExists = None
+end_of (status.Refused refusal) = None
+end_of (status.Unavailable need have) = None
+end_of status.AlreadyInitialised = None
+end_of (status.Lacking ledger entry) = None
 
 -- the source or the sink failed, or memory ran out
 abbrev pub IsCut : Status → Type 0
@@ -67,6 +76,15 @@ IsCut status.ReadFault = Unit {0}
 IsCut status.WriteFault = Unit {0}
 IsCut (status.Limit name number) = ⊥
 IsCut status.NoMemory = Unit {0}
+IsCut (status.DeviceFault file) = ⊥
+IsCut status.NotInitialised = ⊥
+IsCut (status.Damaged file at) = ⊥
+IsCut status.NoStream = ⊥
+IsCut status.StreamExists = ⊥
+IsCut (status.Refused refusal) = ⊥
+IsCut (status.Unavailable need have) = ⊥
+IsCut status.AlreadyInitialised = ⊥
+IsCut (status.Lacking ledger entry) = ⊥
 
 -- a replay was cut: some front of what the run prints was given
 pub record CutShort (given input : List ℕ) (s : Status) : Type 0 where

@@ -1,5 +1,5 @@
 -- A run under way: the bytes of a schedule come in pieces, and whole lines are run as they come.
-use Rattle.std.specs.Prelude.{◌≡◌, ℕ, ◌+◌, ◌≤◌, Bool, false, List, [], ◌∷◌, ◌++◌, length, nat_le, nat_lt, if◌then◌else◌, Option, Some, None, IfNone}
+use Rattle.std.specs.Prelude.{◌≡◌, ℕ, ◌+◌, ◌≤◌, false, List, [], ◌∷◌, ◌++◌, length, nat_le, nat_lt, if◌then◌else◌, Option, Some, None, IfNone}
 use Rattle.dl_types.specs.declared.limit.LimitName.TheVariants.{Lines, Schedule as Bytes}
 use Rattle.dl_schedule.specs.declared.step.Step.{Step}
 use Rattle.dl_transcript.specs.Lines.{print_all, print_transcript}
