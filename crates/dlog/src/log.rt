@@ -2,11 +2,12 @@ ghost use Rattle.std.specs.Prelude.{◌≡◌, ◌+◌, ◌<◌, ◌≤◌, ◌+
 ghost use Rattle.std.specs.List.{flat_map};
 ghost use Rattle.dlog.specs.Machine.{new_log, take, send, append, flush, confirm, entry_events, grow, ack, entry_size, record_size, is_window_full};
 ghost use Rattle.dl_types.specs.declared.entry_bytes.TheConstants.{MAX_ENTRY};
+ghost use Rattle.dl_transcript.specs.Lines.{print_event, print_all};
 ghost use Rattle.dlog.specs.Counts.{HasRoom};
 
 use crate::entry::Entry;
 use dl_transcript::event::Event;
-use dl_transcript::events::Events;
+use dl_transcript::print::{put_ack, put_event, put_grow, put_took};
 use dl_types::client::ClientId;
 use dl_types::dlsn::Dlsn;
 use dl_types::memory::NoMemory;
@@ -83,11 +84,12 @@ impl Log {
         &mut self,
         txid: TxId,
         payload: Payload,
-        events: &mut Events,
+        line: u32,
+        out: &mut Vec<u8>,
     ) -> Result<(), NoMemory>
         requires { HasRoom self.old }
         ensures state { OnOk result (self.new ≡ (append self.old txid payload).0) }
-        ensures shown { OnOk result (events.new ≡ events.old ++ (append self.old txid payload).1) }
+        ensures shown { OnOk result (out.new.items ≡ out.old.items ++ print_all line (append self.old txid payload).1) }
     {
         let bytes = payload.len();
         if bytes > PAYLOAD_LIMIT {
@@ -95,7 +97,8 @@ impl Log {
                 Refusal::TooLong {
                     length: bytes as u64,
                 },
-                events,
+                line,
+                out,
             );
         }
         if txid < self.last {
@@ -104,42 +107,43 @@ impl Log {
                     last: self.last,
                     given: txid,
                 },
-                events,
+                line,
+                out,
             );
         }
         if self.filling.fits(bytes) {
-            return self.take(txid, payload, events);
+            return self.take(txid, payload, line, out);
         }
         if self.is_window_full() {
-            return self.refuse(Refusal::WindowFull, events);
+            return self.refuse(Refusal::WindowFull, line, out);
         }
-        self.send(events)?;
-        self.take(txid, payload, events)
+        self.send(line, out)?;
+        self.take(txid, payload, line, out)
     }
 
     /// Sends the entry under way where it has a record and the window isn't full.
     #[tactic(auto, unfolding(crate::specs::Machine::flush))]
-    pub fn flush(&mut self, events: &mut Events) -> Result<(), NoMemory>
+    pub fn flush(&mut self, line: u32, out: &mut Vec<u8>) -> Result<(), NoMemory>
         requires { HasRoom self.old }
         ensures state { OnOk result (self.new ≡ (flush self.old).0) }
-        ensures shown { OnOk result (events.new ≡ events.old ++ (flush self.old).1) }
+        ensures shown { OnOk result (out.new.items ≡ out.old.items ++ print_all line (flush self.old).1) }
     {
         if self.filling.is_empty() {
-            return events.push(Event::Nothing);
+            return put_event(out, line, &Event::Nothing);
         }
         if self.is_window_full() {
-            return self.refuse(Refusal::WindowFull, events);
+            return self.refuse(Refusal::WindowFull, line, out);
         }
-        self.send(events)
+        self.send(line, out)
     }
 
     /// Confirms each entry that was sent, in order.
     #[tactic(auto, unfolding(crate::specs::Machine::confirm))]
-    pub fn confirm(&mut self, events: &mut Events) -> Result<(), NoMemory>
+    pub fn confirm(&mut self, line: u32, out: &mut Vec<u8>) -> Result<(), NoMemory>
         ensures state { OnOk result (self.new ≡ (confirm self.old).0) }
-        ensures shown { OnOk result (events.new ≡ events.old ++ (confirm self.old).1) }
+        ensures shown { OnOk result (out.new.items ≡ out.old.items ++ print_all line (confirm self.old).1) }
     {
-        show_entries(&self.stream, &self.waiting, events)?;
+        put_entries(out, line, &self.stream, &self.waiting)?;
         self.waiting.clear();
         Ok(())
     }
@@ -150,22 +154,29 @@ impl Log {
         self.waiting.len() >= WINDOW
     }
 
-    fn refuse(&self, refusal: Refusal, events: &mut Events) -> Result<(), NoMemory>
-        ensures { OnOk result (events.new ≡ events.old ++ Event.Refused self.now.client refusal ∷ []) }
+    fn refuse(&self, refusal: Refusal, line: u32, out: &mut Vec<u8>) -> Result<(), NoMemory>
+        ensures { OnOk result (out.new.items ≡ out.old.items ++ print_event line (Event.Refused self.now.client refusal)) }
     {
-        events.push(Event::Refused {
+        let event = Event::Refused {
             client: self.client,
             refusal,
-        })
+        };
+        put_event(out, line, &event)
     }
 
     /// Takes a record into the entry under way.
     #[tactic(auto, unfolding(crate::specs::Machine::take))]
-    fn take(&mut self, txid: TxId, payload: Payload, events: &mut Events) -> Result<(), NoMemory>
+    fn take(
+        &mut self,
+        txid: TxId,
+        payload: Payload,
+        line: u32,
+        out: &mut Vec<u8>,
+    ) -> Result<(), NoMemory>
         requires room { self.old.taken + 1 < 2 ^ 32 }
         requires fits { entry_size self.old.filling + record_size (length payload) ≤ MAX_ENTRY }
         ensures state { OnOk result (self.new ≡ (take self.old txid payload).0) }
-        ensures shown { OnOk result (events.new ≡ events.old ++ (take self.old txid payload).1) }
+        ensures shown { OnOk result (out.new.items ≡ out.old.items ++ print_all line (take self.old txid payload).1) }
     {
         let call = self.taken + 1;
         let row = Row {
@@ -175,84 +186,79 @@ impl Log {
                 slot: self.filling.len() as u32,
             },
             txid,
-            payload: payload.share()?,
+            payload,
             origin: Origin {
                 client: self.client,
                 call,
             },
         };
+        put_took(out, line, &self.stream, &row)?;
         self.filling.push(row)?;
         self.taken = call;
         self.last = txid;
-        let stream = self.stream.share()?;
-        events.push(Event::Took {
-            client: self.client,
-            call,
-            stream,
-            txid,
-            payload,
-        })
+        Ok(())
     }
 
     /// Sends the entry under way.
     #[tactic(auto, unfolding(crate::specs::Machine::send))]
-    fn send(&mut self, events: &mut Events) -> Result<(), NoMemory>
+    fn send(&mut self, line: u32, out: &mut Vec<u8>) -> Result<(), NoMemory>
         requires { self.old.sent + 1 < 2 ^ 64 }
         ensures state { OnOk result (self.new ≡ (send self.old).0) }
-        ensures shown { OnOk result (events.new ≡ events.old ++ (send self.old).1) }
+        ensures shown { OnOk result (out.new.items ≡ out.old.items ++ print_all line (send self.old).1) }
     {
         let entry = mem::replace(&mut self.filling, Entry::new(self.alloc));
         self.waiting.push(entry)?;
         let number = self.sent;
         self.sent += 1;
-        events.push(Event::Sent {
+        let event = Event::Sent {
             client: self.client,
             segment: SEGMENT,
             entry: number,
-        })
+        };
+        put_event(out, line, &event)
     }
 }
 
-/// Shows that each row stands in the stream.
-fn show_grows(stream: &Name, rows: &[Row], events: &mut Events) -> Result<(), NoMemory>
-    ensures { OnOk result (events.new ≡ events.old ++ map (grow stream.now) rows.now) }
+/// Prints that each row stands in the stream.
+fn put_grows(out: &mut Vec<u8>, line: u32, stream: &Name, rows: &[Row]) -> Result<(), NoMemory>
+    ensures { OnOk result (out.new.items ≡ out.old.items ++ print_all line (map (grow stream.now) rows.now)) }
 {
     for row in rows {
-        let name = stream.share()?;
-        let payload = row.payload.share()?;
-        events.push(Event::Grow {
-            stream: name,
-            place: row.place,
-            txid: row.txid,
-            client: row.origin.client,
-            call: row.origin.call,
-            payload,
-        })?;
+        put_grow(out, line, stream, row)?;
     }
     Ok(())
 }
 
-/// Shows that each row is acknowledged.
-fn show_acks(rows: &[Row], events: &mut Events) -> Result<(), NoMemory>
-    ensures { OnOk result (events.new ≡ events.old ++ map ack rows.now) }
+/// Prints that each row is acknowledged.
+fn put_acks(out: &mut Vec<u8>, line: u32, rows: &[Row]) -> Result<(), NoMemory>
+    ensures { OnOk result (out.new.items ≡ out.old.items ++ print_all line (map ack rows.now)) }
 {
     for row in rows {
-        events.push(Event::Ack {
-            client: row.origin.client,
-            call: row.origin.call,
-            place: row.place,
-        })?;
+        put_ack(out, line, row)?;
     }
     Ok(())
 }
 
-/// Shows that the entries are entry_events, in order.
-fn show_entries(stream: &Name, entries: &[Entry], events: &mut Events) -> Result<(), NoMemory>
-    ensures { OnOk result (events.new ≡ events.old ++ flat_map (entry_events stream.now) entries.now) }
+/// Prints that an entry is confirmed.
+fn put_entry(out: &mut Vec<u8>, line: u32, stream: &Name, rows: &[Row]) -> Result<(), NoMemory>
+    ensures { OnOk result (out.new.items ≡ out.old.items ++ print_all line (entry_events stream.now rows.now)) }
+{
+    put_grows(out, line, stream, rows)?;
+    put_acks(out, line, rows)
+}
+
+/// Prints that the entries are confirmed, in order.
+fn put_entries(
+    out: &mut Vec<u8>,
+    line: u32,
+    stream: &Name,
+    entries: &[Entry],
+) -> Result<(), NoMemory>
+    ensures { OnOk result (out.new.items ≡ out.old.items
+        ++ print_all line (flat_map (entry_events stream.now) entries.now)) }
 {
     for entry in entries {
-        show_grows(stream, entry.rows(), events)?;
-        show_acks(entry.rows(), events)?;
+        put_entry(out, line, stream, entry.rows())?;
     }
     Ok(())
 }

@@ -1,11 +1,12 @@
 ghost use Rattle.std.specs.Prelude.{◌≡◌, ◌++◌, OnOk, None, Some};
+ghost use Rattle.dl_transcript.specs.Lines.{print_all};
 ghost use Rattle.dlog.specs.Machine.{State, start, one, settle, finish, on_log, confirm, Within};
 
 use crate::log::{Log, SEGMENT};
 use crate::order::Order;
 use dl_schedule::step::Step;
 use dl_transcript::event::Event;
-use dl_transcript::events::Events;
+use dl_transcript::print::put_event;
 use dl_types::memory::NoMemory;
 use std::alloc::Global;
 use std::marker::Model;
@@ -41,21 +42,23 @@ impl Machine {
         }
     }
 
-    /// The step of this line, from 1; its events are added to the others.
+    /// The step of this line, from 1; its events are printed at the end of a text as they come. After want of memory the
+    /// text is of no more use.
     #[tactic(auto, unfolding(crate::specs::Machine::one))]
-    pub fn step(&mut self, line: u32, step: Step, events: &mut Events) -> Result<(), NoMemory>
+    pub fn step(&mut self, line: u32, step: Step, out: &mut Vec<u8>) -> Result<(), NoMemory>
         requires { Within line self.old }
         ensures state { OnOk result (self.new ≡ (one self.old step).0) }
-        ensures shown { OnOk result (events.new ≡ events.old ++ (one self.old step).1) }
+        ensures shown { OnOk result (out.new.items ≡ out.old.items ++ print_all line (one self.old step).1) }
     {
         match step {
             Step::Setup { .. } => Ok(()),
             Step::Join { client } => {
                 self.sessions += 1;
-                events.push(Event::Joined {
+                let event = Event::Joined {
                     client,
                     session: self.sessions,
-                })
+                };
+                put_event(out, line, &event)
             }
             Step::Create { client, stream } => {
                 self.order = Some(Order::Create { client, stream });
@@ -66,57 +69,60 @@ impl Machine {
                 Ok(())
             }
             Step::Append { txid, payload, .. } => match &mut self.log {
-                None => events.push(Event::Nothing),
-                Some(log) => log.append(txid, payload, events),
+                None => put_event(out, line, &Event::Nothing),
+                Some(log) => log.append(txid, payload, line, out),
             },
             Step::Flush { .. } => match &mut self.log {
-                None => events.push(Event::Nothing),
-                Some(log) => log.flush(events),
+                None => put_event(out, line, &Event::Nothing),
+                Some(log) => log.flush(line, out),
             },
-            Step::Settle => self.settle(events),
+            Step::Settle => self.settle(line, out),
         }
     }
 
     /// The order under way ends, and then the entries that were sent are confirmed.
     #[tactic(auto, unfolding(crate::specs::Machine::settle))]
-    fn settle(&mut self, events: &mut Events) -> Result<(), NoMemory>
+    fn settle(&mut self, line: u32, out: &mut Vec<u8>) -> Result<(), NoMemory>
         ensures state { OnOk result (self.new ≡ (settle self.old).0) }
-        ensures shown { OnOk result (events.new ≡ events.old ++ (settle self.old).1) }
+        ensures shown { OnOk result (out.new.items ≡ out.old.items ++ print_all line (settle self.old).1) }
     {
-        self.finish(events)?;
+        self.finish(line, out)?;
         match &mut self.log {
             None => Ok(()),
-            Some(log) => log.confirm(events),
+            Some(log) => log.confirm(line, out),
         }
     }
 
     /// The order under way, if there is one, ends well.
-    fn finish(&mut self, events: &mut Events) -> Result<(), NoMemory>
+    fn finish(&mut self, line: u32, out: &mut Vec<u8>) -> Result<(), NoMemory>
         ensures state { OnOk result (self.new ≡ (finish self.old self.old.order).0) }
-        ensures shown { OnOk result (events.new ≡ events.old ++ (finish self.old self.old.order).1) }
+        ensures shown { OnOk result (out.new.items ≡ out.old.items ++ print_all line (finish self.old self.old.order).1) }
     {
         match self.order.take() {
             None => Ok(()),
-            Some(order) => self.end(order, events),
+            Some(order) => self.end(order, line, out),
         }
     }
 
     /// This order ends well.
-    fn end(&mut self, order: Order, events: &mut Events) -> Result<(), NoMemory>
+    fn end(&mut self, order: Order, line: u32, out: &mut Vec<u8>) -> Result<(), NoMemory>
         requires { self.old.order ≡ None }
         ensures state { OnOk result (self.new ≡ (finish self.old (Some order)).0) }
-        ensures shown { OnOk result (events.new ≡ events.old ++ (finish self.old (Some order)).1) }
+        ensures shown { OnOk result (out.new.items ≡ out.old.items ++ print_all line (finish self.old (Some order)).1) }
     {
         match order {
-            Order::Create { client, stream } => events.push(Event::Created { client, stream }),
+            Order::Create { client, stream } => {
+                put_event(out, line, &Event::Created { client, stream })
+            }
             Order::Open { client, stream } => {
-                let name = stream.share()?;
-                self.log = Some(Log::new(self.alloc, client, name));
-                events.push(Event::Writer {
+                let event = Event::Writer {
                     client,
-                    stream,
+                    stream: stream.share()?,
                     segment: SEGMENT,
-                })
+                };
+                put_event(out, line, &event)?;
+                self.log = Some(Log::new(self.alloc, client, stream));
+                Ok(())
             }
         }
     }

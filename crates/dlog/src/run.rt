@@ -9,8 +9,6 @@ use crate::machine::Machine;
 use crate::text::read_line;
 use dl_schedule::step::Step;
 use dl_text::line::first_line;
-use dl_transcript::events::Events;
-use dl_transcript::print::put_events;
 use dl_types::limit::LimitName;
 use dl_types::line_fault::LineFault;
 use dl_types::memory::NoMemory;
@@ -24,8 +22,8 @@ const LINE_LIMIT: u32 = 1_000_000;
 const SCHEDULE_LIMIT: usize = 16_777_216;
 
 /// A run under way. The bytes of the schedule come in pieces; whole lines are run as they come, and the bytes of a line
-/// that isn't whole yet are kept. Contracts see it as the progress of specs/Progress.antt. After want of memory a run
-/// has ended, and only its text is used.
+/// that isn't whole yet are kept. Contracts see it as the state of specs/RunStates.antt. After want of memory a run has
+/// ended, and is not used again.
 #[derive(Drop)]
 pub struct Run {
     alloc: Global,
@@ -34,7 +32,6 @@ pub struct Run {
     bytes: usize,
     pending: Vec<u8>,
     text: Vec<u8>,
-    events: Events,
 }
 
 impl Model for Run {
@@ -64,7 +61,6 @@ impl Run {
             bytes: 0,
             pending: Vec::new(alloc),
             text: Vec::new(alloc),
-            events: Events::new(alloc),
         }
     }
 
@@ -150,9 +146,7 @@ impl Run {
         ensures { OnOk result (self.new ≡ behind self.old size step) }
     {
         let line = self.lines + 1;
-        self.events.clear();
-        self.machine.step(line, step, &mut self.events)?;
-        put_events(&mut self.text, line, self.events.as_slice())?;
+        self.machine.step(line, step, &mut self.text)?;
         self.lines = line;
         self.bytes += size;
         self.pending.clear();
