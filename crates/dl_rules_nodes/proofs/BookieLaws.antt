@@ -1,0 +1,51 @@
+-- The durable items of a storage node only grow.
+use Rattle.std.proofs.Common.{◌≡◌, ℕ, Bool, true, false, cond, ◌||◌, List, [], ◌∷◌, ◌++◌, flat_map, refl, sym, ap, ◌∙◌}
+use Rattle.std.specs.List.{list_any}
+use Rattle.std.proofs.lemmas.Grind.{flat_map-append}
+use Rattle.std.proofs.lemmas.List.{append-nil}
+use Rattle.std.proofs.lemmas.List.Folds.{list_any-append}
+use Rattle.dl_rules_nodes.specs.Items.{Item, is_fence}
+use Rattle.dl_rules_nodes.specs.Bookies.{Bookie, durable, queued, Taken, Looks, Answers, Queues, taken, after, with_batch, committed, stopped}
+use Rattle.dl_rules_nodes.specs.Laws.{DurableItemsOnlyGrow, CommitsMoveItems, FencesStay}
+
+with_batch_items : (batches : List (List Item)) (items : List Item) → flat_map (λ batch. batch) (with_batch batches items) ≡ flat_map (λ batch. batch) batches ++ items
+with_batch_items batches [] = sym (append-nil (flat_map (λ batch. batch) batches))
+with_batch_items batches (x ∷ xs) =
+    flat_map-append (λ (batch : List Item). batch) batches ((x ∷ xs) ∷ [])
+    ∙ ap (λ (ys : List Item). flat_map (λ batch. batch) batches ++ ys) (append-nil (x ∷ xs))
+
+after_message : (b : Bookie) (client session : ℕ) (t : Taken) → durable (after b client session t) ≡ durable b
+after_message b client session Looks = refl
+after_message b client session (Answers reply) = refl
+after_message b client session (Queues reply item) = refl
+
+after_commit : (b : Bookie) → durable (committed b) ≡ durable b ++ queued b
+unfolding committed
+after_commit b = with_batch_items b.batches (queued b)
+
+after_stop : (b : Bookie) (kept : Bool) → durable (stopped b kept) ≡ cond kept (durable b ++ queued b) (durable b)
+after_stop b true = with_batch_items b.batches (queued b)
+after_stop b false = refl
+
+pub durable_items_only_grow : DurableItemsOnlyGrow
+durable_items_only_grow b = record {
+  message = λ client session m. after_message b client session (taken b m);
+  commit = after_commit b;
+  stop = after_stop b;
+}
+
+queue_is_empty : (b : Bookie) → queued (committed b) ≡ []
+unfolding committed
+queue_is_empty b = refl
+
+pub commits_move_items : CommitsMoveItems
+commits_move_items b = ap (λ (ys : List Item). durable (committed b) ++ ys) (queue_is_empty b) ∙ append-nil (durable (committed b)) ∙ after_commit b
+
+or_true : (s t : Bool) → s ≡ true → (s || t) ≡ true
+or_true true t e = refl
+or_true false t e = absurd cc
+
+pub fences_stay : FencesStay
+fences_stay b ledger e =
+    ap (λ (items : List Item). list_any (is_fence ledger) items) (after_commit b)
+    ∙ list_any-append (is_fence ledger) (durable b) (queued b) ∙ or_true _ _ e
