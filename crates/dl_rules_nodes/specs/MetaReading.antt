@@ -1,54 +1,53 @@
 -- Reading the items of the metadata node, each after those before it: the first fault in the order of the bytes comes.
-use Rattle.std.specs.Prelude.{ℕ, ◌+◌, ◌==◌, Bool, true, false, not, nat_lt, List, [], ◌∷◌, Option, Some, None, Result, bytes_eq}
+use Rattle.std.specs.Prelude.{ℕ, ◌+◌, ◌==◌, ◌||◌, if◌then◌else◌, Bool, true, false, not, nat_lt, List, [], ◌∷◌, Option, Some, None, Result, bytes_eq}
 use Rattle.std.specs.Int.{w32, w64}
 use Rattle.dl_types.specs.declared.one_op.OneOp.{OneOp}
-use Rattle.dl_types.specs.declared.one_op.OneOp.TheVariants as one
 use Rattle.dl_types.specs.declared.meta_op.MetaOp.{MetaOp}
 use Rattle.dl_types.specs.declared.meta_op.MetaOp.TheVariants as meta
 use Rattle.dl_fields.specs.declared.stop.Stop.{Stop}
-use Rattle.dl_fields.specs.Readers.{then_from, map_from, passing, whole_from}
-use Rattle.dl_fields.specs.Fields.{number_from, counted_from}
+use Rattle.dl_fields.specs.Readers.{◌>>=◌, then_from, map_from, passing, whole_from}
+use Rattle.dl_fields.specs.Fields.{number_from}
 use Rattle.dl_fields.specs.Codes.{code_from}
 use Rattle.dl_fields.specs.Lists.{list_from}
 use Rattle.dl_fields.specs.Paths.{path_from}
-use Rattle.dl_msg.specs.declared.op_kind.OpKind.{OpKind}
-use Rattle.dl_msg.specs.declared.op_kind.OpKind.TheVariants as op
-use Rattle.dl_msg.specs.declared.op_kind.RequestKind.{RequestKind}
-use Rattle.dl_msg.specs.declared.op_kind.RequestKind.TheVariants as request
 use Rattle.dl_msg.specs.Kinds.{op_code, op_kinds, request_code, request_kinds}
-use Rattle.dl_msg.specs.Flags.{version_from}
-use Rattle.dl_msg.specs.OpReading.{op_rest_from, op_count_from}
+use Rattle.dl_msg.specs.OpReading.{op_rest_from, op_count_from, request_rest_from}
 use Rattle.dl_session.specs.Sessions.{Known, number_in, is_live}
 use Rattle.dl_formats.specs.Keys.{Conf, path_of}
 use Rattle.dl_formats.specs.Reading.{conf_from}
 use Rattle.dl_rules_nodes.specs.Items.{MetaItem, Setup, Connect, Expire, Ask}
-use Rattle.dl_rules_nodes.specs.Metadata.{Meta}
-use Rattle.dl_rules_nodes.specs.Reading.{placed}
 
 -- ---- a request that leaves the configuration as it is
+
+-- the codes of a deletion, of a set, and of several operations
+abbrev pub changes_node : ℕ → Bool
+changes_node code = code == 2 || code == 3
+
+abbrev pub is_multi : ℕ → Bool
+is_multi code = code == 7
 
 -- a path that may be deleted or set: any but that of the configuration
 abbrev pub free_path_from : List ℕ → Result (List ℕ × List ℕ) Stop
 free_path_from = passing (λ path. not (bytes_eq path (path_of Conf))) path_from
 
--- an operation behind its kind
-abbrev pub free_rest_from : OpKind → List ℕ → Result (OneOp × List ℕ) Stop
-free_rest_from op.Delete = map_from (λ x. one.Delete x.0 x.1) (then_from free_path_from (λ path. version_from))
-free_rest_from op.Set = map_from (λ x. one.Set x.0 x.1.0 x.1.1) (then_from free_path_from (λ path. then_from (counted_from w32) (λ bytes. version_from)))
-free_rest_from kind = op_rest_from kind
+-- an operation behind its kind; one that changes a node begins with a path that may be changed
+abbrev pub free_rest_from : {A : Type 0} → Bool → (List ℕ → Result A Stop) → List ℕ → Result A Stop
+free_rest_from false read bytes = read bytes
+free_rest_from true read bytes = free_path_from bytes >>= λ path. read bytes
 
 -- an operation
 abbrev pub free_op_from : List ℕ → Result (OneOp × List ℕ) Stop
-free_op_from = map_from (λ x. x.1) (then_from (code_from op_code op_kinds) free_rest_from)
+free_op_from = map_from (λ x. x.1) (then_from (code_from op_code op_kinds) (λ kind. free_rest_from (changes_node (op_code kind)) (op_rest_from kind)))
 
--- a request behind its kind
-abbrev pub free_request_rest_from : RequestKind → List ℕ → Result (MetaOp × List ℕ) Stop
-free_request_rest_from (request.One kind) = map_from meta.One (free_rest_from kind)
-free_request_rest_from request.Multi = map_from meta.Multi (list_from op_count_from free_op_from)
+-- a request behind its kind, of which this is the code
+abbrev pub free_request_rest_from : ℕ → (List ℕ → Result (MetaOp × List ℕ) Stop) → List ℕ → Result (MetaOp × List ℕ) Stop
+free_request_rest_from code read =
+    if is_multi code then map_from meta.Multi (list_from op_count_from free_op_from) else free_rest_from (changes_node code) read
 
 -- a request
 abbrev pub free_request_from : List ℕ → Result (MetaOp × List ℕ) Stop
-free_request_from = map_from (λ x. x.1) (then_from (code_from request_code request_kinds) free_request_rest_from)
+free_request_from =
+    map_from (λ x. x.1) (then_from (code_from request_code request_kinds) (λ kind. free_request_rest_from (request_code kind) (request_rest_from kind)))
 
 -- ---- an item
 

@@ -1,5 +1,5 @@
 -- The metadata node: tree and sessions are the fold of the items in force, the newest of which is the first of the list.
-use Rattle.std.specs.Prelude.{ℕ, ◌+◌, Bool, true, false, ◌&&◌, ◌||◌, not, if◌then◌else◌, nat_le, nat_lt, List, [], ◌∷◌, length, Option, Some, None, bytes_eq}
+use Rattle.std.specs.Prelude.{ℕ, ◌+◌, Bool, true, ◌&&◌, not, nat_le, nat_lt, List, [], ◌∷◌, length, Option, Some, None, bytes_eq}
 use Rattle.std.specs.List.{list_all}
 use Rattle.std.specs.FinMap.{insert}
 use Rattle.dl_types.specs.declared.mode.Mode.TheVariants.{Lasting}
@@ -13,7 +13,7 @@ use Rattle.dl_msg.specs.declared.meta_reply.MetaReply.TheVariants as reply
 use Rattle.dl_tree.specs.Trees.{Nodes, root_alone, new_node, applied, without_session}
 use Rattle.dl_session.specs.declared.admit.Admit.{Admit}
 use Rattle.dl_session.specs.declared.admit.Admit.TheVariants as admit
-use Rattle.dl_session.specs.Sessions.{Known, none_known, connected, expired, ran, number_in, is_live, admits}
+use Rattle.dl_session.specs.Sessions.{Known, none_known, connected, expired, ran, number_in, admits}
 use Rattle.dl_formats.specs.declared.conf.Conf as conf
 use Rattle.dl_formats.specs.Keys.{Key, Conf, Streams, Ledgers, path_of}
 use Rattle.dl_formats.specs.NodeBytes.{conf_bytes}
