@@ -1,0 +1,88 @@
+"""What the scripts that run definitions share: values of definitions as plain values of Python, and back.
+
+A plain value is a number, a bool, a list, a dict of a record's fields, or a tuple of a constructor's name and its fields."""
+import importlib, os, sys
+
+
+def load(folder, name):
+    """The module of this name in a folder."""
+    sys.path.insert(0, os.path.abspath(folder))
+    return importlib.import_module(name)
+
+
+class Definitions:
+    """The definitions of a repository's crates, run by a reader of definitions: the module `antt` of a folder of tools."""
+
+    def __init__(self, antt, crates):
+        self.antt, self.world, self.made = antt, antt.World(crates), {}
+
+    def function(self, path):
+        """A definition as a function, by its crate, file and name: `dl_rules_nodes.Bookies.taken`."""
+        crate, rest = path.split(".", 1)
+        return self.world.function("Rattle.%s.specs.%s" % (crate, rest))
+
+    def fix(self, path, value):
+        """Gives a constant another value, in all definitions."""
+        self.function(path)
+        crate, rest = path.split(".", 1)
+        d = self.world.definition("Rattle.%s.specs.%s" % (crate, rest))
+        self.world.space["d%d" % d.id] = lambda: value
+
+    def name(self, path, *names):
+        """Names constructors: those of an enum of a crate, `dl_msg.msg.Msg`, or of a type of definitions, `dl_rules_nodes.Items.Item`."""
+        crate, rest = path.split(".", 1)
+        enum = rest[:1].islower()
+        where = "Rattle.%s.specs.%s" % (crate, "declared.%s.TheVariants" % rest if enum else rest.rsplit(".", 1)[0])
+        for n in names:
+            self.made[rest.rsplit(".", 1)[1] + "." + n] = self.world.con(where + "." + n)
+
+    def con(self, name, *fields):
+        """The constructor of an enum's name and its own, as `Msg.Add`, of plain fields."""
+        return self.made[name](*map(self.value, fields))
+
+    def value(self, x):
+        """A plain value as one of definitions. A tuple is a constructor's whole name and its fields."""
+        antt = self.antt
+        if isinstance(x, (bytes, list)):
+            return antt.from_list([self.value(y) for y in x])
+        if isinstance(x, str):
+            return antt.from_list([ord(c) for c in x])
+        if x is None:
+            return antt.NONE.value
+        if isinstance(x, dict):
+            return antt.record(**{k: self.value(y) for k, y in x.items()})
+        if type(x) is Some:
+            return (antt.SOME, self.value(x.value))
+        return x
+
+    def plain(self, v):
+        """A value of definitions as a plain one."""
+        antt = self.antt
+        if v == ():
+            return []
+        if isinstance(v, tuple) and type(v[0]) is antt.Con:
+            if v[0] is antt.NONE:
+                return None
+            if v[0] is antt.SOME:
+                return Some(self.plain(v[1]))
+            if v[0] is antt.TUPLE:
+                return ("tuple",) + tuple(self.plain(x) for x in v[1:])
+            return (v[0].name,) + tuple(self.plain(x) for x in v[1:])
+        if isinstance(v, tuple):
+            return [self.plain(x) for x in antt.to_list(v)]
+        if hasattr(type(v), "fields"):
+            return {f: self.plain(getattr(v, antt.attribute(f))) for f in type(v).fields}
+        return v
+
+
+class Some:
+    """A value that is there; one that isn't is None."""
+
+    def __init__(self, value):
+        self.value = value
+
+    def __eq__(self, other):
+        return type(other) is Some and self.value == other.value
+
+    def __repr__(self):
+        return "Some(%r)" % (self.value,)
