@@ -1,5 +1,5 @@
-use crate::address::Address;
 use crate::msg::Msg;
+use dl_types::address::Address;
 
 /// A message with its sender and its receiver. The session is that of the client at either end.
 #[derive(Clone, Debug, Drop)]

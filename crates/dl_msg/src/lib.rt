@@ -2,7 +2,6 @@
 //! and answers.
 #![tactic(auto)]
 
-pub mod address;
 pub mod answer;
 mod answer_kind;
 pub mod decode;

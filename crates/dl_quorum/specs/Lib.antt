@@ -1,2 +1,5 @@
+pub mod Sizes
+pub mod WriteSets
+pub mod Pieces
 pub mod Places
 pub mod Laws

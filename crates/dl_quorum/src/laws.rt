@@ -1,6 +1,6 @@
 //! What recovery rests on, of the placement of entries. Each function is empty: its clause is the law.
 
-ghost use Rattle.dl_quorum.specs.Laws.{HasWriteQuorum, PlacesDiffer, AcksMeetDenials, CoversDenyAll, CountsOnlyMembers, BookiesMeet, LaterPiecesKeep, CoversBlockAll};
+ghost use Rattle.dl_quorum.specs.Laws.{HasWriteQuorum, PlacesDiffer, AcksMeetDenials, CoversDenyAll, CountsOnlyMembers, BookiesMeet, LaterPiecesKeep, CoversBlockAll, CoversArePlaces};
 
 /// A write set has `qw` places, and they differ.
 pub fn write_set_places_differ()
@@ -26,4 +26,9 @@ pub fn bookies_stand_at_places()
     ensures meet { BookiesMeet }
     ensures later { LaterPiecesKeep }
     ensures cover { CoversBlockAll }
+{}
+
+/// A set of bookies covers the last piece exactly where the places of those bookies cover.
+pub fn covers_are_of_places()
+    ensures { CoversArePlaces }
 {}

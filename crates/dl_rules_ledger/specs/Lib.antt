@@ -1,4 +1,3 @@
-pub mod Quorums
 pub mod Ensembles
 pub mod Leading
 pub mod Writers

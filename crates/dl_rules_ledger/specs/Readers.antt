@@ -1,7 +1,7 @@
 -- A ledger's reader by the calls that it was given (BookKeeper documentation, "read last add confirmed", "read entry"): how many
 -- entries can be read, and their bytes.
 use Rattle.std.specs.Prelude.{ℕ, false, if◌then◌else◌, List, [], ◌∷◌, Option, Some, None}
-use Rattle.dl_types.specs.Pieces.{covers}
+use Rattle.dl_quorum.specs.Pieces.{covers}
 use Rattle.dl_msg.specs.declared.msg.Msg.{Msg}
 use Rattle.dl_msg.specs.declared.msg.Msg.TheVariants.{AskLac, AskEntry, LacIs, EntryIs}
 use Rattle.dl_msg.specs.declared.letters.Told.{Told}

@@ -1,7 +1,7 @@
 -- The recovery of a ledger from its fencing on (BookKeeper documentation, "ledger recovery"): it fences, reads forward from the
 -- greatest confirmation, copies what it finds, and ends at the first entry that is denied. A phase holds what was heard in it.
 use Rattle.std.specs.Prelude.{ℕ, ◌+◌, ◌-◌, ◌^◌, true, nat_le, if◌then◌else◌, List, [], ◌∷◌}
-use Rattle.dl_types.specs.Pieces.{acks, blocks, covers}
+use Rattle.dl_quorum.specs.Pieces.{acks, blocks, covers}
 use Rattle.dl_msg.specs.declared.msg.Msg.{Msg}
 use Rattle.dl_msg.specs.declared.msg.Msg.TheVariants.{Copy, AskLac, AskEntry, CopyOk, LacIs, EntryIs, NoEntry}
 use Rattle.dl_msg.specs.declared.letters.Told.{Told}

@@ -1,7 +1,7 @@
 -- What a task asks bookies about a ledger, and what they answer.
 use Rattle.std.specs.Prelude.{ℕ, max, Bool, ◌&&◌, ◌==◌, List, [], ◌∷◌, map}
 use Rattle.std.specs.List.{list_any}
-use Rattle.dl_types.specs.Pieces.{Pieces, members, last_piece}
+use Rattle.dl_quorum.specs.Pieces.{Pieces, members, last_piece}
 use Rattle.dl_msg.specs.declared.msg.Msg.{Msg}
 use Rattle.dl_msg.specs.declared.letters.Told.{Told}
 

@@ -1,7 +1,7 @@
 -- A ledger's writer by the calls that it was given: which entries it has sent, who has acknowledged them, and how many of
 -- the first are confirmed (BookKeeper documentation, "the ledger writer", last add confirmed).
 use Rattle.std.specs.Prelude.{ℕ, suc, ◌+◌, Bool, false, ◌&&◌, ◌||◌, ◌==◌, nat_lt, nat_le, if◌then◌else◌, List, [], ◌∷◌, map, Option, Some, None}
-use Rattle.dl_types.specs.Pieces.{Pieces, members, acks}
+use Rattle.dl_quorum.specs.Pieces.{Pieces, members, acks}
 use Rattle.dl_msg.specs.declared.msg.Msg.{Msg}
 use Rattle.dl_msg.specs.declared.msg.Msg.TheVariants.{Add, AddOk, AddFenced}
 use Rattle.dl_msg.specs.declared.letters.Told.{Told}

@@ -2,9 +2,14 @@
 #![tactic(auto)]
 
 pub mod bookie_count;
+pub mod device_step;
 pub mod early;
 pub mod fault;
+pub mod message_number;
+pub mod node;
+pub mod row_count;
 pub mod step;
 #[cfg(test)]
 mod tests;
 mod verb;
+mod words;

@@ -5,3 +5,6 @@ pub mod Words
 pub mod Columns
 pub mod Outputs
 pub mod Laws
+pub mod NameFields
+pub mod PlaceFields
+pub mod Choices

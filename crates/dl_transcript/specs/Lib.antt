@@ -2,3 +2,9 @@ pub mod Verbs
 pub mod Lines
 pub mod Legal
 pub mod Laws
+pub mod EventWords
+pub mod PathFields
+pub mod EventLines
+pub mod EventReading
+pub mod Legality
+pub mod Judging

@@ -6,3 +6,4 @@ pub mod events;
 pub mod law;
 pub mod print;
 pub mod verb;
+mod words;

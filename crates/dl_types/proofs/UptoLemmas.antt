@@ -5,7 +5,7 @@ use Rattle.std.proofs.lemmas.List.{length-append, get_or_append_left, get_or-map
 use Rattle.std.proofs.Math.Seq.{get_or-append_seam}
 use Rattle.std.proofs.lemmas.List.Folds.{list_all-append}
 use Rattle.std.specs.List.{list_all}
-use Rattle.dl_types.specs.Ensembles.{upto}
+use Rattle.dl_types.specs.Upto.{upto}
 
 pub length-upto : (n : ℕ) → length (upto n) ≡ n
 length-upto zero = refl

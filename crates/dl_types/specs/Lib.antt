@@ -4,5 +4,4 @@ pub mod NameFaults
 pub mod Statuses
 pub mod Quorums
 pub mod Ensembles
-pub mod WriteSets
-pub mod Pieces
+pub mod Upto

@@ -1,5 +1,5 @@
-ghost use Rattle.std.specs.Prelude.{◌≡◌, ◌≤◌, ◌<◌, ◌+◌, ◌%◌, ℕ, slice_index};
-ghost use Rattle.dl_types.specs.Ensembles.{IsEnsemble, ring_members};
+ghost use Rattle.std.specs.Prelude.{◌≡◌, ◌≤◌, ◌<◌, ◌+◌, ◌%◌};
+ghost use Rattle.dl_types.specs.Ensembles.{IsEnsemble};
 
 /// The bookies that a ledger is spread over at first, in the order of their places: a ring of neighbours among all
 /// bookies, which begins where the ledger's number says.
@@ -31,10 +31,7 @@ impl Ensemble {
     /// The bookie at this place, from 0.
     pub fn bookie(&self, place: u8) -> u8
         requires { place < self.now.e }
-        ensures value { result ≡ (self.now.first + place) % self.now.bookies }
-        // It is the member at that place of the ring of each ledger that begins at the same bookie.
-        ensures member { (ledger : ℕ) → self.now.first ≡ ledger % self.now.bookies
-            → result ≡ slice_index (ring_members ledger self.now.bookies self.now.e) place }
+        ensures { result ≡ (self.now.first + place) % self.now.bookies }
     {
         (self.first + place) % self.bookies
     }

@@ -10,7 +10,10 @@ use bytes::Bytes;
 use std::alloc::{AllocError, Global};
 use std::marker::Model;
 
-/// The name of a stream: 1 to 64 bytes of `a` to `z`, `0` to `9`, `_` and `-`, the first a letter. Copies share the
+/// The most bytes of a name.
+pub const MAX_NAME: u8 = 64;
+
+/// The name of a stream: 1 to `MAX_NAME` bytes of `a` to `z`, `0` to `9`, `_` and `-`, the first a letter. Copies share the
 /// bytes. Contracts see a name as the list of its bytes.
 #[derive(Clone, Debug, Drop)]
 pub struct Name {
@@ -65,8 +68,8 @@ fn fault_of(bytes: &[u8]) -> Option<u8>
                 return Some(0);
             }
             for (i, byte) in bytes.iter().enumerate() {
-                if i >= 64 {
-                    return Some(64);
+                if i >= MAX_NAME as usize {
+                    return Some(MAX_NAME);
                 }
                 if !is_name_byte(*byte) {
                     return Some(i as u8);

@@ -1,5 +1,6 @@
 use crate::client::ClientId;
 use crate::dlsn::Dlsn;
+use crate::list::ListOf;
 use crate::payload::Payload;
 use crate::txid::TxId;
 
@@ -19,3 +20,6 @@ pub struct Row {
     pub payload: Payload,
     pub origin: Origin,
 }
+
+/// Rows of a stream, by rising places.
+pub type Rows = ListOf<Row>;

@@ -1,4 +1,4 @@
-use Rattle.dl_types.proofs.PieceLemmas.{acks-places, blocks-places, acks-meets-blocks, members_more, covers-blocks}
+use Rattle.dl_quorum.proofs.PieceLemmas.{acks-places, blocks-places, acks-meets-blocks, members_more, covers-blocks}
 use Rattle.dl_quorum.proofs.laws.bookies_stand_at_places.Goals as goal
 
 pub returns-clause-places : goal.returns-clause-places

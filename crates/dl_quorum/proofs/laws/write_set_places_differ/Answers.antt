@@ -1,4 +1,4 @@
-use Rattle.dl_types.proofs.WriteSetLemmas.{length-write_set, write_set-distinct}
+use Rattle.dl_quorum.proofs.WriteSetLemmas.{length-write_set, write_set-distinct}
 use Rattle.dl_quorum.proofs.laws.write_set_places_differ.Goals as goal
 
 pub returns-clause-size : goal.returns-clause-size

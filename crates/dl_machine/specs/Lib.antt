@@ -1,0 +1,7 @@
+pub mod States
+pub mod Growth
+pub mod Atoms
+pub mod Lines
+pub mod Limits
+pub mod Runs
+pub mod Replays

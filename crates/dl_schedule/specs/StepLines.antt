@@ -1,0 +1,182 @@
+-- The lines of a schedule: the one spelling of each step, and the ranges of their words.
+use Rattle.std.specs.Prelude.{ℕ, ◌≤◌, Bool, true, false, List, [], ◌∷◌, ◌++◌, length}
+use Rattle.std.specs.List.{AllByRecursion}
+use Rattle.dl_types.specs.declared.address.Address.{Address}
+use Rattle.dl_types.specs.declared.address.Address.TheVariants as address
+use Rattle.dl_text.specs.Numbers.{number, IsWithin}
+use Rattle.dl_text.specs.Hex.{hex, AllBytes}
+use Rattle.dl_text.specs.NameFields.{name_field, IsName}
+use Rattle.dl_text.specs.PlaceFields.{place_field, IsPlaceFrom, most_u64, most_u32}
+use Rattle.dl_schedule.specs.declared.node.Node.{Node}
+use Rattle.dl_schedule.specs.declared.node.Node.TheVariants as node
+use Rattle.dl_schedule.specs.declared.step.Step.{Step}
+use Rattle.dl_schedule.specs.declared.step.Step.TheVariants.{Setup, Join, Crash, Expire, Create, Remove, Open, Recover, Purge, Append, Set, Flush, Commit, Close, SeekOldest, SeekPlace, SeekTxid, Read, Truncate, Deliver, Sync, Lose, Stop, StopMeta, Kill, Up, Settle, Mail}
+use Rattle.dl_schedule.specs.declared.words.FirstWord.{FirstWord}
+use Rattle.dl_schedule.specs.declared.words.FirstWord.TheVariants as word
+use Rattle.dl_schedule.specs.declared.words.StartWord.TheVariants as start
+use Rattle.dl_schedule.specs.declared.words.NodeWord.TheVariants as letter
+use Rattle.dl_schedule.specs.Words.{first_text, start_text, node_text}
+
+-- the byte between words, and the byte that ends a line
+abbrev pub space : ℕ
+space = 32
+
+abbrev pub line_feed : ℕ
+line_feed = 10
+
+-- the greatest transaction id
+abbrev pub most_txid : ℕ
+most_txid = 9223372036854775807
+
+abbrev pub first_word_of : Step → FirstWord
+first_word_of (Setup b e w a) = word.Setup
+first_word_of (Join c) = word.Join
+first_word_of (Crash c) = word.Crash
+first_word_of (Expire k) = word.Expire
+first_word_of (Create c s) = word.Create
+first_word_of (Remove c s) = word.Remove
+first_word_of (Open c s) = word.Open
+first_word_of (Recover c s) = word.Recover
+first_word_of (Purge c s) = word.Purge
+first_word_of (Append c t p) = word.Append
+first_word_of (Set c t ps) = word.Set
+first_word_of (Flush c) = word.Flush
+first_word_of (Commit c) = word.Commit
+first_word_of (Close c) = word.Close
+first_word_of (SeekOldest c s) = word.Seek
+first_word_of (SeekPlace c s d) = word.Seek
+first_word_of (SeekTxid c s t) = word.Seek
+first_word_of (Read c n) = word.Read
+first_word_of (Truncate c s d) = word.Truncate
+first_word_of (Deliver from to n) = word.Deliver
+first_word_of (Sync b) = word.Sync
+first_word_of (Lose b) = word.Lose
+first_word_of (Stop b k kept) = word.Stop
+first_word_of (StopMeta c n k kept) = word.StopMeta
+first_word_of (Kill x) = word.Kill
+first_word_of (Up x) = word.Up
+first_word_of Settle = word.Settle
+first_word_of Mail = word.Mail
+
+-- a bit as a number
+abbrev pub bit_number : Bool → ℕ
+bit_number false = 0
+bit_number true = 1
+
+-- payloads, each ended by a space, and the last by a line feed
+abbrev pub payload_fields : List (List ℕ) → List ℕ
+payload_fields [] = []
+payload_fields (p ∷ []) = hex line_feed p
+payload_fields (p ∷ q ∷ ps) = hex space p ++ payload_fields (q ∷ ps)
+
+-- an end of a link, and the byte that ends it
+abbrev pub address_field : ℕ → Address → List ℕ
+address_field end (address.Client c) = node_text end letter.Client ++ number end c
+address_field end (address.Bookie b) = node_text end letter.Bookie ++ number end b
+address_field end address.Meta = node_text end letter.Meta
+
+-- a node, and the byte that ends it
+abbrev pub node_field : ℕ → Node → List ℕ
+node_field end (node.Bookie b) = node_text end letter.Bookie ++ number end b
+node_field end node.Meta = node_text end letter.Meta
+
+-- a line behind its first word: its other words, each with the byte that ends it
+abbrev pub other_words : Step → List ℕ
+other_words (Setup b e w a) = number space b ++ (number space e ++ (number space w ++ number line_feed a))
+other_words (Join c) = number line_feed c
+other_words (Crash c) = number line_feed c
+other_words (Expire k) = number line_feed k
+other_words (Create c s) = number space c ++ name_field line_feed s
+other_words (Remove c s) = number space c ++ name_field line_feed s
+other_words (Open c s) = number space c ++ name_field line_feed s
+other_words (Recover c s) = number space c ++ name_field line_feed s
+other_words (Purge c s) = number space c ++ name_field line_feed s
+other_words (Append c t p) = number space c ++ (number space t ++ hex line_feed p)
+other_words (Set c t ps) = number space c ++ (number space t ++ payload_fields ps)
+other_words (Flush c) = number line_feed c
+other_words (Commit c) = number line_feed c
+other_words (Close c) = number line_feed c
+other_words (SeekOldest c s) = number space c ++ (name_field space s ++ start_text start.Oldest)
+other_words (SeekPlace c s d) = number space c ++ (name_field space s ++ (start_text start.Place ++ place_field line_feed d))
+other_words (SeekTxid c s t) = number space c ++ (name_field space s ++ (start_text start.Txid ++ number line_feed t))
+other_words (Read c n) = number space c ++ number line_feed n
+other_words (Truncate c s d) = number space c ++ (name_field space s ++ place_field line_feed d)
+other_words (Deliver from to n) = address_field space from ++ (address_field space to ++ number line_feed n)
+other_words (Sync b) = number line_feed b
+other_words (Lose b) = number line_feed b
+other_words (Stop b k kept) = number space b ++ (number space k ++ number line_feed (bit_number kept))
+other_words (StopMeta c n k kept) = number space c ++ (number space n ++ (number space k ++ number line_feed (bit_number kept)))
+other_words (Kill x) = node_field line_feed x
+other_words (Up x) = node_field line_feed x
+other_words Settle = []
+other_words Mail = []
+
+-- the one spelling of a step, with its line feed
+unfoldable pub step_line : Step → List ℕ
+step_line s = first_text (first_word_of s) ++ other_words s
+
+-- ---- ranges
+
+abbrev pub IsClient : ℕ → Type 0
+IsClient c = IsWithin 0 63 c
+
+abbrev pub IsBookie : ℕ → Type 0
+IsBookie b = IsWithin 0 15 b
+
+abbrev pub IsCount : ℕ → Type 0
+IsCount n = IsWithin 1 16 n
+
+abbrev pub IsTxid : ℕ → Type 0
+IsTxid t = IsWithin 0 most_txid t
+
+abbrev pub IsNumber : ℕ → Type 0
+IsNumber n = IsWithin 1 most_u32 n
+
+-- a link has a client at one end, and a node at the other
+abbrev pub IsLink : Address → Address → Type 0
+IsLink (address.Client c) (address.Bookie b) = IsClient c × IsBookie b
+IsLink (address.Client c) address.Meta = IsClient c
+IsLink (address.Bookie b) (address.Client c) = IsBookie b × IsClient c
+IsLink address.Meta (address.Client c) = IsClient c
+IsLink from to = ⊥
+
+abbrev pub IsNode : Node → Type 0
+IsNode (node.Bookie b) = IsBookie b
+IsNode node.Meta = Unit {0}
+
+-- a set has 1 to 64 payloads
+pub record ArePayloads (ps : List (List ℕ)) : Type 0 where
+  pub some : 1 ≤ length ps
+  pub most : length ps ≤ 64
+  pub bytes : AllByRecursion AllBytes ps
+
+-- the steps that a schedule can say: their words are in their ranges
+abbrev pub IsStep : Step → Type 0
+IsStep (Setup b e w a) = IsCount b × (IsCount e × (IsCount w × IsCount a))
+IsStep (Join c) = IsClient c
+IsStep (Crash c) = IsClient c
+IsStep (Expire k) = IsWithin 1 most_u64 k
+IsStep (Create c s) = IsClient c × IsName s
+IsStep (Remove c s) = IsClient c × IsName s
+IsStep (Open c s) = IsClient c × IsName s
+IsStep (Recover c s) = IsClient c × IsName s
+IsStep (Purge c s) = IsClient c × IsName s
+IsStep (Append c t p) = IsClient c × (IsTxid t × AllBytes p)
+IsStep (Set c t ps) = IsClient c × (IsTxid t × ArePayloads ps)
+IsStep (Flush c) = IsClient c
+IsStep (Commit c) = IsClient c
+IsStep (Close c) = IsClient c
+IsStep (SeekOldest c s) = IsClient c × IsName s
+IsStep (SeekPlace c s d) = IsClient c × (IsName s × IsPlaceFrom 1 d)
+IsStep (SeekTxid c s t) = IsClient c × (IsName s × IsTxid t)
+IsStep (Read c n) = IsClient c × IsWithin 1 1000 n
+IsStep (Truncate c s d) = IsClient c × (IsName s × IsPlaceFrom 1 d)
+IsStep (Deliver from to n) = IsLink from to × IsNumber n
+IsStep (Sync b) = IsBookie b
+IsStep (Lose b) = IsBookie b
+IsStep (Stop b k kept) = IsBookie b × IsWithin 1 4 k
+IsStep (StopMeta c n k kept) = IsClient c × (IsNumber n × IsWithin 1 4 k)
+IsStep (Kill x) = IsNode x
+IsStep (Up x) = IsNode x
+IsStep Settle = Unit {0}
+IsStep Mail = Unit {0}
