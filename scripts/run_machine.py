@@ -72,7 +72,7 @@ def count_equations(antt):
 
 
 # definitions whose values are kept, since they are asked for again and again at the same arguments
-KEPT = ["dl_rules_ledger.Writers.confirmed", "dl_rules_ledger.Writers.fenced_by", "dl_quorum.WriteSets.write_set", "dl_machine.Runs.turn"]
+KEPT = ["dl_rules_ledger.Writers.confirmed", "dl_rules_ledger.Writers.fenced_by", "dl_quorum.WriteSets.write_set", "dl_machine.Runs.turn", "dl_rules_stream.LogReaders.reader_started"]
 
 
 def keep_values(antt, d, path):
@@ -247,8 +247,8 @@ NAMES = {
     "queue": ("dl_rules_nodes.Limits.most_waiting", ("machine", "MAX_QUEUE")),
     "journal": ("dl_rules_nodes.Limits.longest_journal", ("machine", "MAX_JOURNAL")),
     "window": ("dl_rules_ledger.Writers.window", ("machine", "WINDOW")),
-    "payload": ("dl_rules_stream.LogWriters.payload_limit", ("machine", "MAX_PAYLOAD")),
-    "entry": ("dl_rules_stream.LogWriters.entry_limit", ("machine", "MAX_ENTRY")),
+    "payload": ("dl_rules_stream.LogWriters.longest_payload", ("machine", "MAX_PAYLOAD")),
+    "entry": ("dl_rules_stream.LogWriters.longest_entry", ("machine", "MAX_ENTRY")),
     "messages": ("dl_machine.Limits.most_messages", ("machine", "MAX_MESSAGES")),
     "message-bytes": ("dl_machine.Limits.most_message_bytes", ("machine", "MAX_MESSAGE_BYTES")),
     "transcript": ("dl_machine.Limits.most_transcript", ("dlog", "MAX_TRANSCRIPT")),

@@ -1,11 +1,9 @@
--- A client process: its order under way, its writer and its reader, as a fold over all that it took.
-use Rattle.std.specs.Prelude.{ℕ, zero, suc, ◌+◌, max, Bool, true, false, if◌then◌else◌, not, ◌&&◌, ◌||◌, ◌==◌, nat_lt, List, [], ◌∷◌, ◌++◌, length, map, Option, Some, None, is_some, is_none, option_map, Result, Ok, Err}
+-- A client process: its order under way, its writer and its reader, as a fold over all that it took. Each task in it is a view of
+-- that task: what the task was started with, and what the client gave it, the newest first.
+use Rattle.std.specs.Prelude.{ℕ, suc, ◌+◌, Bool, true, false, if◌then◌else◌, not, ◌&&◌, ◌==◌, nat_lt, List, [], ◌∷◌, ◌++◌, length, map, Option, Some, None, is_none, is_some, option_map, Result, Ok, Err}
 use Rattle.dl_types.specs.declared.address.Address.{Address}
 use Rattle.dl_types.specs.declared.address.Address.TheVariants.{Client, Bookie as AtBookie, Meta as AtMeta}
 use Rattle.dl_types.specs.declared.dlsn.Dlsn.{Dlsn}
-use Rattle.dl_types.specs.declared.meta_answer.MetaAnswer.{MetaAnswer}
-use Rattle.dl_types.specs.declared.meta_answer.MetaAnswer.TheVariants as answer
-use Rattle.dl_types.specs.declared.one_answer.OneAnswer.TheVariants.{Names, Bytes}
 use Rattle.dl_types.specs.declared.read_row.ReadRow.{ReadRow}
 use Rattle.dl_types.specs.declared.refusal.Refusal.{Refusal}
 use Rattle.dl_types.specs.declared.refusal.Refusal.TheVariants as why
@@ -13,8 +11,8 @@ use Rattle.dl_types.specs.declared.row.Origin.{Origin}
 use Rattle.dl_types.specs.declared.row.Row.{Row}
 use Rattle.dl_types.specs.declared.start.Start.{Start}
 use Rattle.dl_types.specs.declared.start.Start.TheVariants as start
-use Rattle.dl_types.specs.declared.why.Why.TheVariants.{NoNode}
-use Rattle.dl_types.specs.Places.{place, greater}
+use Rattle.dl_types.specs.Places.{place}
+use Rattle.dl_quorum.specs.Pieces.{ring}
 use Rattle.dl_msg.specs.declared.heard.Heard.{Heard}
 use Rattle.dl_msg.specs.declared.heard.Heard.TheVariants.{Reply, From}
 use Rattle.dl_msg.specs.declared.letter.Letter.{Letter}
@@ -23,67 +21,63 @@ use Rattle.dl_msg.specs.declared.meta_reply.MetaReply.{MetaReply}
 use Rattle.dl_msg.specs.declared.meta_reply.MetaReply.TheVariants.{Expired, Answer}
 use Rattle.dl_msg.specs.declared.msg.Msg.{Msg}
 use Rattle.dl_msg.specs.declared.msg.Msg.TheVariants as msg
-use Rattle.dl_formats.specs.declared.conf.Conf.{Conf}
-use Rattle.dl_formats.specs.declared.cut.Cut.{Cut}
-use Rattle.dl_formats.specs.declared.fault.MetaBytesFault.{MetaBytesFault}
-use Rattle.dl_formats.specs.declared.ledger.LedgerState.TheVariants.{Closed as ClosedState}
-use Rattle.dl_formats.specs.Keys as key
-use Rattle.dl_formats.specs.Keys.{path_of}
-use Rattle.dl_formats.specs.Reading.{cut_at}
 use Rattle.dl_schedule.specs.declared.step.Step.{Step}
 use Rattle.dl_schedule.specs.declared.step.Step.TheVariants as step
 use Rattle.dl_transcript.specs.declared.event.Event.{Event}
 use Rattle.dl_transcript.specs.declared.event.Event.TheVariants as shows
-use Rattle.dl_rules_ledger.specs.Writers.{WriterView, confirmed, sent, fenced_by}
-use Rattle.dl_rules_stream.specs.Sizes.{Sizes, sizes_of, shape}
-use Rattle.dl_rules_stream.specs.Requests.{Request, MakeStream, RemoveStream, MakeMember, LeaveLock, Look, SetLedger, CompleteSegment, ListSegments, LookEnd, op_of}
-use Rattle.dl_rules_stream.specs.Orders.{Next, Wait, Ask, Tell, Done, Refused, no_way_on, MakeStage, Making, make_next, RemoveStage, Removing, remove_next, MakingMember}
-use Rattle.dl_rules_stream.specs.LogWriters.{LogNow, Deed, Sent, Result1, Stopped, Did, Mood, Open, Committing, Controlled, Committed, Closing, log_started, append, flush, commit, close, hears as log_hears, is_closing}
-use Rattle.dl_rules_stream.specs.LogReaders.{ReadArgs, ReadStage, Listing, read_next, cursor_after, begin as begin_read}
-use Rattle.dl_rules_stream.specs.Trims.{CutStage, LookingEnd, truncate_next, PurgeStage, ListingOld, purge_next}
+use Rattle.dl_rules_stream.specs.Nodes.{new_sizes}
+use Rattle.dl_rules_stream.specs.Requests.{Request, Completion, op_of}
+use Rattle.dl_rules_stream.specs.Orders.{Next, Wait, Ask, Tell, Done, Refused}
+use Rattle.dl_rules_stream.specs.Makes.{make_first, make_hears, make_stage}
+use Rattle.dl_rules_stream.specs.Removes.{remove_first, remove_hears, remove_stage}
+use Rattle.dl_rules_stream.specs.Opens.{OpenArgs, Opened, open_first, open_hears, open_recovers, open_stage}
+use Rattle.dl_rules_stream.specs.Recovers.{RecoverArgs, Found, Whole, Completes, recover_first, recover_hears, recover_stage}
+use Rattle.dl_rules_stream.specs.Closes.{CloseArgs, close_first, close_hears, close_stage}
+use Rattle.dl_rules_stream.specs.Seeks.{Position, position_at, seek_first, seek_hears, seek_stage}
+use Rattle.dl_rules_stream.specs.Truncates.{TruncateArgs, truncate_first, truncate_hears, truncate_stage}
+use Rattle.dl_rules_stream.specs.Purges.{purge_first, purge_hears, purge_stage}
+use Rattle.dl_rules_stream.specs.LogWriters.{LogArgs, LogCall, Appends, AppendsSet, Flushes, Commits as CallsCommit, Closes as CallsClose, HearsFrom, LogNow, LogMove, LogState, HasCommitted, MayClose, IsFenced, log_of, log_state, appends, appends_set, log_flushes, commits, closes, log_hears, sent_count, confirmed_count, fenced_at, is_closing, has_parts, last_sent_entry}
+use Rattle.dl_rules_stream.specs.LogWriters as log
+use Rattle.dl_rules_stream.specs.LogReaders.{ReaderArgs, LogReaderCall, Reads as CallsRead, HearsAll, ReaderNow, reader_started, reader_of, reader_move}
 use Rattle.dl_rules_client.specs.Acts.{Input, Line, Came, ClientArgs, SentEntry, Confirmed, Acts, no_acts}
-use Rattle.dl_rules_client.specs.Opens.{RecoverStage, LookingUp, recover_next, OpenStage, Locking, open_next, Opened, Turn, turn}
 
--- ---- the state
+-- ---- what a client is
 
--- closing: what was sent is confirmed; the ledger is closed; the segment is completed; the lock is left
-pub data CloseStage : Type 0 where
-  Confirming : CloseStage
-  ClosingLedger : (entries : ℕ) → CloseStage
-  CompletingSegment : (entries : ℕ) → CloseStage
-  Leaving : CloseStage
-
--- an order by where its list stands
+-- An order by its list, with all that it heard. A commit waits for its control entry; a close first waits until all that was sent
+-- is confirmed; a read is the reader's.
 pub data Doing : Type 0 where
-  Makes : (stage : MakeStage) → Doing
-  Removes : (stage : RemoveStage) → Doing
-  Opens : (stage : OpenStage) → Doing
-  Recovers : (stage : RecoverStage) → Doing
+  Makes : (heard : List Heard) → Doing
+  Removes : (heard : List Heard) → Doing
+  Opens : (heard : List Heard) → Doing
+  Recovers : (heard : List Heard) → Doing
   Commits : Doing
-  Closes : (stage : CloseStage) → Doing
-  Seeks : (from : Start) → Doing
-  Reads : (args : ReadArgs) (stage : ReadStage) → Doing
-  Truncates : (to : Dlsn) (stage : CutStage) → Doing
-  Purges : (stage : PurgeStage) → Doing
+  Confirms : Doing
+  Closes : (args : CloseArgs) (heard : List Heard) → Doing
+  Seeks : (from : Start) (heard : List Heard) → Doing
+  Reads : Doing
+  Truncates : (to : Dlsn) (heard : List Heard) → Doing
+  Purges : (heard : List Heard) → Doing
 
--- The order under way: the number of its line, its stream, and where it stands.
+-- The order under way: the number of its line, which is the tag of its messages, its stream, and what it does.
 pub record Order : Type 0 where
   pub line : ℕ
   pub stream : List ℕ
   pub doing : Doing
 
--- A writer: the line of its open, its stream, what it began with, and its log.
-pub record WriterNow : Type 0 where
+-- A writer: the line of its open, its stream, what the open ended with, and its log by its calls.
+pub record WriterView : Type 0 where
   pub line : ℕ
   pub stream : List ℕ
   pub opened : Opened
-  pub log : LogNow
+  pub args : LogArgs
+  pub calls : List LogCall
 
--- A reader: its stream, its place, and the least id of a record that it is given.
-pub record ReaderNow : Type 0 where
-  pub stream : List ℕ
-  pub cursor : Dlsn
-  pub floor : ℕ
+-- A reader by its calls: where it starts, and the point of its stream then.
+pub record ReaderView : Type 0 where
+  pub args : ReaderArgs
+  pub from : Start
+  pub point : Dlsn
+  pub calls : List LogReaderCall
 
 -- How many requests were made, and whether the last one waits for its reply; how many records were taken, those of earlier
 -- processes among them; the order under way, the writer and the reader, where there is one.
@@ -92,382 +86,425 @@ pub record ClientNow : Type 0 where
   pub awaits : Bool
   pub taken : ℕ
   pub order : Option Order
-  pub writer : Option WriterNow
-  pub reader : Option ReaderNow
+  pub writer : Option WriterView
+  pub reader : Option ReaderView
 
+-- before anything was taken
 abbrev pub started : ClientArgs → ClientNow
 started me = record { asked = 0; awaits = false; taken = me.calls; order = None; writer = None; reader = None }
 
--- what a client does with something: its state then, and its acts
+-- what a client does with something: what it is then, and its acts
 abbrev pub Taken : Type 0
 Taken = ClientNow × Acts
 
 -- ---- acts
 
+-- an event more
 abbrev pub with_event : Event → Acts → Acts
 with_event e acts = record acts { events = acts.events ++ e ∷ [] }
 
+-- one event
 abbrev pub shown : Event → Acts
 shown e = with_event e no_acts
 
-abbrev pub refusal : ClientArgs → Refusal → Acts
-refusal me r = shown (shows.Refused me.number r)
+-- letters more
+abbrev pub with_letters : List Letter → Acts → Acts
+with_letters letters acts = record acts { letters = acts.letters ++ letters }
+
+-- a refusal, as an event
+abbrev pub refusal : ClientArgs → Refusal → Event
+refusal me r = shows.Refused me.number r
 
 -- a request, as a letter to the metadata node
 abbrev pub request_letter : ClientArgs → ℕ → Request → Letter
 request_letter me number r = record { from = Client me.number; to = AtMeta; session = me.session; msg = msg.MetaAsk me.session number (op_of r) }
 
--- messages to storage nodes, as letters
+-- a message for a storage node, as a letter
 abbrev pub told_letter : ClientArgs → Told → Letter
 told_letter me t = record { from = Client me.number; to = AtBookie t.bookie; session = me.session; msg = t.msg }
 
 abbrev pub told_letters : ClientArgs → List Told → List Letter
 told_letters me ts = map (told_letter me) ts
 
--- ---- orders
-
--- how an order ends well: the events that it shows, and what it leaves of writer and reader
-abbrev pub ended : ClientNow → ClientNow
-ended now = record now { order = None; awaits = false }
+-- ---- how orders go on and end
 
 -- a close that ends, in whatever way, leaves no writer
-abbrev pub is_close : Doing → Bool
-is_close (Closes stage) = true
-is_close _ = false
+abbrev pub writer_after : Doing → Option WriterView → Option WriterView
+writer_after Confirms w = None
+writer_after (Closes args heard) w = None
+writer_after doing w = w
 
-abbrev pub ended_order : ClientNow → Order → ClientNow
-ended_order now o = let then_now = ended now in if is_close o.doing then record then_now { writer = None } else then_now
+-- no order is under way
+abbrev pub ended : ClientNow → Order → ClientNow
+ended now o = record now { order = None; awaits = false; writer = writer_after o.doing now.writer }
 
-abbrev pub refused : ClientArgs → ClientNow → Order → Refusal → Acts → Taken
-refused me now o r acts = (ended_order now o, with_event (shows.Refused me.number r) acts)
+-- an order ends with an event
+abbrev pub ends_with : ClientNow → Order → Acts → Event → Taken
+ends_with now o acts e = (ended now o, with_event e acts)
 
--- what an order does next, with what it showed by now; an order that is done goes on as `done` says
+-- an order is under way
+abbrev pub under_way : ClientNow → Order → ClientNow
+under_way now o = record now { order = Some o }
+
+-- an order makes a request
+abbrev pub asking : ClientNow → Order → ClientNow
+asking now o = record now { order = Some o; asked = suc now.asked; awaits = true }
+
+-- what an order does next, after its acts so far; one that is done goes on as it says
 abbrev pub goes_on : {A : Type 0} → ClientArgs → ClientNow → Order → Acts → Next A → (A → Taken) → Taken
-goes_on me now o acts Wait done = (record now { order = Some o }, acts)
-goes_on me now o acts (Ask r) done =
-    (record now { order = Some o; asked = suc now.asked; awaits = true }, record acts { letters = acts.letters ++ request_letter me (suc now.asked) r ∷ [] })
-goes_on me now o acts (Tell ts) done = (record now { order = Some o }, record acts { letters = acts.letters ++ told_letters me ts })
+goes_on me now o acts Wait done = (under_way now o, acts)
+goes_on me now o acts (Ask r) done = (asking now o, with_letters (request_letter me (suc now.asked) r ∷ []) acts)
+goes_on me now o acts (Tell ts) done = (under_way now o, with_letters (told_letters me ts) acts)
 goes_on me now o acts (Done a) done = done a
-goes_on me now o acts (Refused r) done = refused me now o r acts
+goes_on me now o acts (Refused r) done = ends_with now o acts (refusal me r)
 
--- an order that is done shows an event
-abbrev pub ends_with : ClientNow → Order → Event → Taken
-ends_with now o e = (ended_order now o, shown e)
+-- an order that does something else
+abbrev pub doing_now : Order → Doing → Order
+doing_now o doing = record o { doing = doing }
 
--- the event of a segment that was recovered
+-- a segment was completed on the way
 abbrev pub recovered_acts : ClientArgs → List ℕ → Option Dlsn → Acts
 recovered_acts me s None = no_acts
-recovered_acts me s (Some d) = shown (shows.Recovered me.number s d)
-
-abbrev pub at_stage : Order → Doing → Order
-at_stage o doing = record o { doing = doing }
+recovered_acts me s (Some end) = shown (shows.Recovered me.number s end)
 
 -- ---- the writer
 
-abbrev pub new_writer : ClientArgs → Order → Opened → WriterNow
-new_writer me o x =
-    record { line = o.line; stream = o.stream; opened = x; log = log_started x.segment x.last x.ledger (shape x.ledger me.conf.b (sizes_of me.conf)) }
+-- a writer's log
+abbrev pub log_now : WriterView → LogNow
+log_now w = log_of w.args w.calls
 
-abbrev pub is_fenced : WriterNow → Option ℕ
-is_fenced w = fenced_by w.log.ledger.ledger w.log.ledger.calls
+-- a writer with a call more
+abbrev pub with_call : WriterView → LogCall → WriterView
+with_call w call = record w { calls = call ∷ w.calls }
 
-abbrev pub is_all_confirmed : WriterNow → Bool
-is_all_confirmed w = confirmed w.log.ledger == sent w.log.ledger.calls
+-- the writer that an open ends with
+abbrev pub new_writer : ClientArgs → Order → Opened → WriterView
+new_writer me o x = record {
+  line = o.line;
+  stream = o.stream;
+  opened = x;
+  args = record { segment = x.segment; last = x.last; ledger = x.ledger; pieces = ring x.ledger me.conf.b (new_sizes me.conf) };
+  calls = [];
+}
 
--- an entry that was sent, for the machine and as an event
-abbrev pub sent_entry : WriterNow → Sent → SentEntry
+-- the entry that a call sent, where it sent one
+abbrev pub sent_by : LogNow → LogNow → Option log.SentEntry
+sent_by before now = if nat_lt (sent_count before) (sent_count now) then last_sent_entry now else None
+
+-- an entry of the writer's ledger
+abbrev pub sent_entry : WriterView → log.SentEntry → SentEntry
 sent_entry w x = record { stream = w.stream; segment = w.opened.segment; ledger = w.opened.ledger; entry = x.entry; rows = x.rows }
 
-abbrev pub sent_events : ClientArgs → WriterNow → Option Sent → List Event
+abbrev pub sent_events : ClientArgs → WriterView → Option log.SentEntry → List Event
 sent_events me w None = []
 sent_events me w (Some x) = shows.Sent me.number w.opened.segment x.entry ∷ []
 
-abbrev pub ack_events : ClientArgs → List (Origin × Dlsn) → List Event
-ack_events me acks = map (λ (x : Origin × Dlsn). shows.Ack me.number x.0.call x.1) acks
+-- rows that are confirmed are acknowledged
+abbrev pub ack_events : ClientArgs → List Row → List Event
+ack_events me rows = map (λ (r : Row). shows.Ack me.number r.origin.call r.place) rows
 
--- what a writer's call does: acknowledgements come first, and then the entry that was sent
-abbrev pub deed_acts : ClientArgs → WriterNow → Deed → Acts
-deed_acts me w d = record {
-  letters = told_letters me d.letters;
-  events = ack_events me d.acks ++ sent_events me w d.sent;
-  sent = option_map (sent_entry w) d.sent;
-  confirmed = None;
-  taken = 0;
-}
-
-abbrev pub with_log : ClientNow → WriterNow → LogNow → ClientNow
-with_log now w log = record now { writer = Some (record w { log = log }) }
+-- the acts of a writer's call: acknowledgements come first, and then the entry that was sent
+abbrev pub move_acts : ClientArgs → WriterView → LogMove → Acts
+move_acts me w m =
+    let sent = sent_by (log_now w) m.now in
+    record {
+      letters = told_letters me m.letters;
+      events = ack_events me m.rows ++ sent_events me w sent;
+      sent = option_map (sent_entry w) sent;
+      confirmed = None;
+      taken = 0;
+    }
 
 -- the records of a line, each of which was taken
-abbrev pub took_events : ClientArgs → List ℕ → ℕ → ℕ → List (List ℕ) → List Event
+abbrev pub took_events : ClientArgs → List ℕ → (txid call : ℕ) → List (List ℕ) → List Event
 took_events me s txid call [] = []
 took_events me s txid call (p ∷ ps) = shows.Took me.number call s txid p ∷ took_events me s txid (suc call) ps
 
-abbrev pub with_taken : Acts → List Event → Acts
-with_taken acts events = record acts { events = acts.events ++ events; taken = length events }
+-- records that were taken, behind an entry that was sent to make room
+abbrev pub with_taken : ClientArgs → WriterView → (txid call : ℕ) → List (List ℕ) → Acts → Acts
+with_taken me w txid call payloads acts = record acts { events = acts.events ++ took_events me w.stream txid call payloads; taken = length payloads }
 
-abbrev pub takes_records : ClientArgs → ClientNow → WriterNow → ℕ → List (List ℕ) → Result1 → Taken
-takes_records me now w txid payloads (Stopped r) = (now, refusal me r)
-takes_records me now w txid payloads (Did d) =
-    let events = took_events me w.stream txid (suc now.taken) payloads in
-    (record (with_log now w d.now) { taken = now.taken + length payloads }, with_taken (deed_acts me w d) events)
+-- what becomes of a call by which records are taken
+abbrev pub took : ClientArgs → ClientNow → WriterView → LogCall → ℕ → List (List ℕ) → Result LogMove Refusal → Taken
+took me now w call txid payloads (Err r) = (now, shown (refusal me r))
+took me now w call txid payloads (Ok m) = (
+  record now { writer = Some (with_call w call); taken = now.taken + length payloads },
+  with_taken me w txid (suc now.taken) payloads (move_acts me w m),
+)
 
-abbrev pub appends : ClientArgs → ClientNow → Option WriterNow → Bool → ℕ → List (List ℕ) → Taken
-appends me now None is_set txid payloads = (now, refusal me why.NoWriter)
-appends me now (Some w) is_set txid payloads = takes_records me now w txid payloads (append w.log is_set me.number (suc now.taken) txid payloads)
+-- the origin of the next record
+abbrev pub next_origin : ClientArgs → ClientNow → Origin
+next_origin me now = record { client = me.number; call = suc now.taken }
 
-abbrev pub flushed : ClientArgs → ClientNow → WriterNow → Result1 → Taken
-flushed me now w (Stopped r) = (now, refusal me r)
-flushed me now w (Did d) = (with_log now w d.now, deed_acts me w d)
+-- a record, and a set of records
+abbrev pub appends_one : ClientArgs → ClientNow → Option WriterView → ℕ → List ℕ → Taken
+appends_one me now None txid payload = (now, shown (refusal me why.NoWriter))
+appends_one me now (Some w) txid payload =
+    let o = next_origin me now in took me now w (Appends o txid payload) txid (payload ∷ []) (appends (log_now w) o txid payload)
 
-abbrev pub flushes : ClientArgs → ClientNow → Option WriterNow → Taken
-flushes me now None = (now, refusal me why.NoWriter)
-flushes me now (Some w) = flushed me now w (flush w.log)
+abbrev pub appends_many : ClientArgs → ClientNow → Option WriterView → ℕ → List (List ℕ) → Taken
+appends_many me now None txid payloads = (now, shown (refusal me why.NoWriter))
+appends_many me now (Some w) txid payloads =
+    let o = next_origin me now in took me now w (AppendsSet o txid payloads) txid payloads (appends_set (log_now w) o txid payloads)
+
+-- what was taken is sent
+abbrev pub flushed : ClientArgs → ClientNow → WriterView → Result LogMove Refusal → Taken
+flushed me now w (Err r) = (now, shown (refusal me r))
+flushed me now w (Ok m) = (record now { writer = Some (with_call w Flushes) }, move_acts me w m)
+
+abbrev pub flushes : ClientArgs → ClientNow → Option WriterView → Taken
+flushes me now None = (now, shown (refusal me why.NoWriter))
+flushes me now (Some w) = flushed me now w (log_flushes (log_now w))
 
 -- ---- commit and close
 
-abbrev pub commit_by : ClientArgs → ClientNow → Order → WriterNow → Acts → Mood → Taken
-commit_by me now o w acts (Committed e) =
-    (record (ended now) { writer = Some (record w { log = record w.log { mood = Open } }) }, with_event (shows.Committed w.stream (place w.opened.segment e 0)) acts)
-commit_by me now o w acts mood = (record now { order = Some o }, acts)
+-- the segment that a close completes, and with what
+abbrev pub completion_of : WriterView → (entries rows last : ℕ) → Completion
+completion_of w entries rows last = record {
+  stream = w.stream;
+  member = Some w.opened.member;
+  segment = w.opened.segment;
+  ledger = w.opened.ledger;
+  entries = entries;
+  rows = rows;
+  last = last;
+  greatest = w.opened.segment;
+  version = w.opened.version;
+}
 
-abbrev pub close_request : WriterNow → Request
-close_request w = SetLedger w.opened.ledger ClosedState w.log.ledger.pieces.q (sent w.log.ledger.calls) 0
+-- a writer knows its ledger's node at version 0
+abbrev pub close_args : WriterView → (entries rows last : ℕ) → CloseArgs
+close_args w entries rows last =
+    record { completion = completion_of w entries rows last; q = w.args.pieces.q; version = 0; member = w.opened.member }
 
-abbrev pub complete_request : WriterNow → ℕ → Request
-complete_request w n =
-    CompleteSegment w.stream (Some w.opened.member) w.opened.segment w.opened.ledger n w.log.rows_sent w.log.last_sent w.opened.segment w.opened.version
+-- all that was sent is confirmed: the ledger is closed
+abbrev pub begins_close : ClientArgs → ClientNow → Order → Acts → CloseArgs → Taken
+begins_close me now o acts args =
+    goes_on me now (doing_now o (Closes args [])) acts (close_first args).1 (λ (u : Unit {0}). (under_way now o, acts))
 
-abbrev pub close_by : ClientArgs → ClientNow → Order → WriterNow → Acts → Bool → Taken
-close_by me now o w acts true = goes_on me now (at_stage o (Closes (ClosingLedger (sent w.log.ledger.calls)))) acts (Ask (close_request w)) (λ (u : Unit {0}). (now, acts))
-close_by me now o w acts false = (record now { order = Some o }, acts)
+-- a commit or a close goes on as its writer's log does: a fence ends it
+abbrev pub log_goes_on : ClientArgs → ClientNow → WriterView → Order → Acts → Doing → LogState → Taken
+log_goes_on me now w o acts Commits (HasCommitted control) = ends_with now o acts (shows.Committed w.stream (place w.opened.segment control 0))
+log_goes_on me now w o acts Commits (IsFenced bookie) = ends_with now o acts (refusal me (why.Fenced bookie))
+log_goes_on me now w o acts Confirms (MayClose entries rows last) = begins_close me now o acts (close_args w entries rows last)
+log_goes_on me now w o acts Confirms (IsFenced bookie) = ends_with now o acts (refusal me (why.Fenced bookie))
+log_goes_on me now w o acts doing state = (under_way now o, acts)
 
--- a commit or a close goes on with its writer as far as it can; a fence ends it
-abbrev pub writer_order : ClientArgs → ClientNow → WriterNow → Acts → Order → Option ℕ → Taken
-writer_order me now w acts o fence = by o.doing fence
-  where
-    by : Doing → Option ℕ → Taken
-    by Commits (Some b) = refused me (with_log now w (record w.log { mood = Open })) o (why.Fenced b) acts
-    by Commits None = commit_by me now o w acts w.log.mood
-    by (Closes Confirming) (Some b) = refused me now o (why.Fenced b) acts
-    by (Closes Confirming) None = close_by me now o w acts (is_all_confirmed w)
-    by _ f = (now, acts)
-
-abbrev pub order_goes_on : ClientArgs → ClientNow → WriterNow → Acts → Option Order → Taken
+abbrev pub order_goes_on : ClientArgs → ClientNow → WriterView → Acts → Option Order → Taken
 order_goes_on me now w acts None = (now, acts)
-order_goes_on me now w acts (Some o) = writer_order me now w acts o (is_fenced w)
+order_goes_on me now w acts (Some o) = log_goes_on me now w o acts o.doing (log_state (log_now w))
 
--- after a call of the writer that an order may wait for
-abbrev pub after_deed : ClientArgs → ClientNow → WriterNow → Deed → Taken
-after_deed me now w d =
-    let next = record w { log = d.now } in
-    order_goes_on me (record now { writer = Some next }) next (deed_acts me w d) now.order
+-- after a call of the writer for which an order may wait
+abbrev pub after_call : ClientArgs → ClientNow → WriterView → LogCall → LogMove → Taken
+after_call me now w call m =
+    let next = with_call w call in order_goes_on me (record now { writer = Some next }) next (move_acts me w m) now.order
 
-abbrev pub begins_writing : ClientArgs → ClientNow → WriterNow → Order → Result1 → Taken
-begins_writing me now w o (Stopped r) = (now, refusal me r)
-begins_writing me now w o (Did d) = after_deed me (record now { order = Some o }) w d
+-- a commit or a close begins, or is refused
+abbrev pub begins_on_log : ClientArgs → ClientNow → ℕ → WriterView → Doing → LogCall → Result LogMove Refusal → Taken
+begins_on_log me now line w doing call (Err r) = (now, shown (refusal me r))
+begins_on_log me now line w doing call (Ok m) = after_call me (under_way now (record { line = line; stream = w.stream; doing = doing })) w call m
 
-abbrev pub commits : ClientArgs → ClientNow → ℕ → Option WriterNow → Taken
-commits me now line None = (now, refusal me why.NoWriter)
-commits me now line (Some w) = begins_writing me now w (record { line = line; stream = w.stream; doing = Commits }) (commit w.log)
+abbrev pub begins_commit : ClientArgs → ClientNow → ℕ → Option WriterView → Taken
+begins_commit me now line None = (now, shown (refusal me why.NoWriter))
+begins_commit me now line (Some w) = begins_on_log me now line w Commits CallsCommit (commits (log_now w))
 
-abbrev pub closes : ClientArgs → ClientNow → ℕ → Option WriterNow → Taken
-closes me now line None = (now, refusal me why.NoWriter)
-closes me now line (Some w) = begins_writing me now w (record { line = line; stream = w.stream; doing = Closes Confirming }) (close w.log)
+abbrev pub begins_confirm : ClientArgs → ClientNow → ℕ → Option WriterView → Taken
+begins_confirm me now line None = (now, shown (refusal me why.NoWriter))
+begins_confirm me now line (Some w) = begins_on_log me now line w Confirms CallsClose (closes (log_now w))
 
--- the answers to the requests of a close; a segment that another completed is done
-abbrev pub close_hears : ClientArgs → ClientNow → Order → Option WriterNow → CloseStage → MetaAnswer → Taken
-close_hears me now o (Some w) (ClosingLedger n) (answer.Failed at why) = refused me now o (no_way_on (close_request w) at why) no_acts
-close_hears me now o (Some w) (ClosingLedger n) a =
-    goes_on me now (at_stage o (Closes (CompletingSegment n))) no_acts (Ask (complete_request w n)) (λ (u : Unit {0}). (now, no_acts))
-close_hears me now o (Some w) (CompletingSegment n) (answer.Failed (suc zero) NoNode) = leaves me now o w
-  where
-    leaves : ClientArgs → ClientNow → Order → WriterNow → Taken
-    leaves me now o w = goes_on me now (at_stage o (Closes Leaving)) no_acts (Ask (LeaveLock w.opened.member)) (λ (u : Unit {0}). (now, no_acts))
-close_hears me now o (Some w) (CompletingSegment n) (answer.Failed at why) = refused me now o (no_way_on (complete_request w n) at why) no_acts
-close_hears me now o (Some w) (CompletingSegment n) a =
-    goes_on me now (at_stage o (Closes Leaving)) no_acts (Ask (LeaveLock w.opened.member)) (λ (u : Unit {0}). (now, no_acts))
-close_hears me now o (Some w) Leaving (answer.Failed at why) = refused me now o (no_way_on (LeaveLock w.opened.member) at why) no_acts
-close_hears me now o (Some w) Leaving a = ends_with now o (shows.Released me.number o.stream)
-close_hears me now o w stage a = (record now { order = Some o }, no_acts)
+-- ---- the reader
 
--- ---- seek and read
+-- a reader
+abbrev pub reader_now : ReaderView → ReaderNow
+reader_now r = reader_of r.args (reader_started r.point r.from) r.calls
 
-abbrev pub seek_place : Start → Dlsn → Dlsn
-seek_place (start.Place d) point = greater point d
-seek_place _ point = point
+-- a reader that starts at a place or by an id, in a stream with this point
+abbrev pub new_reader : ClientArgs → List ℕ → Start → Dlsn → ReaderView
+new_reader me s from point = record { args = record { stream = s; conf = me.conf }; from = from; point = point; calls = [] }
 
-abbrev pub seek_floor : Start → ℕ
-seek_floor (start.Tx t) = t
-seek_floor _ = 0
-
+-- where it starts, as an event
 abbrev pub opened_event : ClientArgs → List ℕ → Start → Dlsn → Event
-opened_event me s (start.Tx t) d = shows.OpenedFrom me.number s t
-opened_event me s _ d = shows.OpenedAt me.number s d
+opened_event me s (start.Tx txid) point = shows.OpenedFrom me.number s txid
+opened_event me s from point = shows.OpenedAt me.number s (position_at point from).cursor
 
-abbrev pub reader_at : List ℕ → Start → Dlsn → ReaderNow
-reader_at s from d = record { stream = s; cursor = d; floor = seek_floor from }
+-- a seek is done: the reader takes the place of an earlier one
+abbrev pub sought : ClientArgs → ClientNow → Order → Start → Dlsn → Taken
+sought me now o from point = (record (ended now o) { reader = Some (new_reader me o.stream from point) }, shown (opened_event me o.stream from point))
 
-abbrev pub sought : ClientArgs → ClientNow → Order → Start → Result Cut MetaBytesFault → Taken
-sought me now o from (Err fault) = refused me now o (why.GaveUp (path_of (key.Cut o.stream))) no_acts
-sought me now o from (Ok cut) =
-    let d = seek_place from cut.point in
-    (record (ended now) { reader = Some (reader_at o.stream from d) }, shown (opened_event me o.stream from d))
-
-abbrev pub seek_hears : ClientArgs → ClientNow → Order → Start → MetaAnswer → Taken
-seek_hears me now o from (answer.Many (Names names ∷ Bytes bytes v ∷ [])) = sought me now o from (cut_at bytes)
-seek_hears me now o from (answer.Failed zero NoNode) = refused me now o why.NoStream no_acts
-seek_hears me now o from (answer.Failed at w) = refused me now o (no_way_on (ListSegments o.stream) at w) no_acts
-seek_hears me now o from a = (record now { order = Some o }, no_acts)
-
+-- the rows that a read found, or that it found none
 abbrev pub rows_event : ClientArgs → List ℕ → List ReadRow → Event
 rows_event me s [] = shows.End me.number s
 rows_event me s (r ∷ rs) = shows.Rows me.number s (r ∷ rs)
 
-abbrev pub moved_reader : ReaderNow → List ReadRow → ReaderNow
-moved_reader r rows = record r { cursor = cursor_after r.cursor rows }
+-- a call of the reader, and what the read does next
+abbrev pub reader_goes_on : ClientArgs → ClientNow → Order → ReaderView → Acts → LogReaderCall → Taken
+reader_goes_on me now o r acts call =
+    let next = record now { reader = Some (record r { calls = call ∷ r.calls }) } in
+    goes_on me next o acts (reader_move r.args (reader_now r) call).1 (λ rows. ends_with next o acts (rows_event me o.stream rows))
 
-abbrev pub read_done : ClientArgs → ClientNow → Order → List ReadRow → Taken
-read_done me now o rows =
-    (record (ended now) { reader = option_map (λ (r : ReaderNow). moved_reader r rows) now.reader }, shown (rows_event me o.stream rows))
+abbrev pub read_hears : ClientArgs → ClientNow → Order → Option ReaderView → Heard → Taken
+read_hears me now o None h = (under_way now o, no_acts)
+read_hears me now o (Some r) h = reader_goes_on me now o r no_acts (HearsAll h)
 
-abbrev pub read_args : ClientArgs → ℕ → ℕ → ReaderNow → ReadArgs
-read_args me line count r = record { tag = line; stream = r.stream; cursor = r.cursor; floor = r.floor; count = count; conf = me.conf }
+abbrev pub begins_read : ClientArgs → ClientNow → (line count : ℕ) → Option ReaderView → Taken
+begins_read me now line count None = (now, no_acts)
+begins_read me now line count (Some r) =
+    reader_goes_on me now (record { line = line; stream = r.args.stream; doing = Reads }) r (shown (shows.Reading me.number r.args.stream)) (CallsRead line count)
 
 -- ---- what an order hears
 
-abbrev pub open_done : ClientArgs → ClientNow → Order → Acts → Opened → Taken
-open_done me now o acts x = (record (ended now) { writer = Some (new_writer me o x) }, with_event (shows.Writer me.number o.stream x.segment) acts)
+-- what an open and a recovery are started with
+abbrev pub open_args : ClientArgs → Order → OpenArgs
+open_args me o = record { tag = o.line; stream = o.stream; conf = me.conf }
 
-abbrev pub recover_done : ClientArgs → ClientNow → Order → Acts → Bool → Taken
-recover_done me now o acts true = (ended now, with_event (shows.Whole me.number o.stream) acts)
-recover_done me now o acts false = (ended now, acts)
+abbrev pub recover_args : ClientArgs → Order → RecoverArgs
+recover_args me o = record { tag = o.line; stream = o.stream; conf = me.conf }
 
--- the order under way hears an answer of the metadata node, or a tagged message of a storage node
-abbrev pub order_hears : ClientArgs → ClientNow → Order → Heard → Doing → Taken
-order_hears me now o (Reply a) (Makes stage) =
-    let t = make_next o.stream stage a in goes_on me now (at_stage o (Makes t.0)) no_acts t.1 (λ u. ends_with now o (shows.Created me.number o.stream))
-order_hears me now o (Reply a) (Removes stage) =
-    let t = remove_next o.stream stage a in goes_on me now (at_stage o (Removes t.0)) no_acts t.1 (λ u. ends_with now o (shows.Removed me.number o.stream))
-order_hears me now o heard (Opens stage) =
-    let t = open_next o.line me.conf o.stream stage heard in
-    let acts = recovered_acts me o.stream t.recovered in
-    goes_on me now (at_stage o (Opens t.stage)) acts t.next (open_done me now o acts)
-order_hears me now o heard (Recovers stage) =
-    let t = recover_next o.line me.conf o.stream stage heard in
-    let acts = recovered_acts me o.stream t.recovered in
-    goes_on me now (at_stage o (Recovers t.stage)) acts t.next (recover_done me now o acts)
-order_hears me now o (Reply a) (Closes stage) = close_hears me now o now.writer stage a
-order_hears me now o (Reply a) (Seeks from) = seek_hears me now o from a
-order_hears me now o heard (Reads args stage) =
-    let t = read_next args stage heard in goes_on me now (at_stage o (Reads args t.0)) no_acts t.1 (read_done me now o)
-order_hears me now o (Reply a) (Truncates d stage) =
-    let t = truncate_next o.stream d stage a in
-    goes_on me now (at_stage o (Truncates d t.0)) no_acts t.1 (λ e. ends_with now o (shows.Truncated me.number o.stream e))
-order_hears me now o (Reply a) (Purges stage) =
-    let t = purge_next o.stream stage a in
-    goes_on me now (at_stage o (Purges t.0)) no_acts t.1 (λ n. ends_with now o (shows.Purged me.number o.stream n))
-order_hears me now o heard doing = (now, no_acts)
+abbrev pub truncate_args : Order → Dlsn → TruncateArgs
+truncate_args o to = record { stream = o.stream; place = to }
+
+-- an open is done
+abbrev pub opened : ClientArgs → ClientNow → Order → Acts → Opened → Taken
+opened me now o acts x = (record (ended now o) { writer = Some (new_writer me o x) }, with_event (shows.Writer me.number o.stream x.segment) acts)
+
+-- what a recovery found
+abbrev pub found_event : ClientArgs → List ℕ → Found → Event
+found_event me s Whole = shows.Whole me.number s
+found_event me s (Completes end) = shows.Recovered me.number s end
+
+-- the order under way hears an answer to its request, or a message that is tagged as its own
+unfoldable pub order_hears : ClientArgs → ClientNow → Order → Heard → Doing → Taken
+order_hears me now o h (Makes heard) =
+    goes_on me now (doing_now o (Makes (h ∷ heard))) no_acts (make_hears o.stream (make_stage o.stream heard) h).1
+      (λ u. ends_with now o no_acts (shows.Created me.number o.stream))
+order_hears me now o h (Removes heard) =
+    goes_on me now (doing_now o (Removes (h ∷ heard))) no_acts (remove_hears o.stream (remove_stage o.stream heard) h).1
+      (λ u. ends_with now o no_acts (shows.Removed me.number o.stream))
+order_hears me now o h (Opens heard) =
+    let args = open_args me o in
+    let stage = open_stage args heard in
+    let acts = recovered_acts me o.stream (open_recovers stage h) in
+    goes_on me now (doing_now o (Opens (h ∷ heard))) acts (open_hears args stage h).1 (opened me now o acts)
+order_hears me now o h (Recovers heard) =
+    let args = recover_args me o in
+    goes_on me now (doing_now o (Recovers (h ∷ heard))) no_acts (recover_hears args (recover_stage args heard) h).1
+      (λ found. ends_with now o no_acts (found_event me o.stream found))
+order_hears me now o h (Closes args heard) =
+    goes_on me now (doing_now o (Closes args (h ∷ heard))) no_acts (close_hears args (close_stage args heard) h).1
+      (λ u. ends_with now o no_acts (shows.Released me.number o.stream))
+order_hears me now o h (Seeks from heard) =
+    goes_on me now (doing_now o (Seeks from (h ∷ heard))) no_acts (seek_hears o.stream (seek_stage o.stream heard) h).1 (sought me now o from)
+order_hears me now o h (Truncates to heard) =
+    let args = truncate_args o to in
+    goes_on me now (doing_now o (Truncates to (h ∷ heard))) no_acts (truncate_hears args (truncate_stage args heard) h).1
+      (λ point. ends_with now o no_acts (shows.Truncated me.number o.stream point))
+order_hears me now o h (Purges heard) =
+    goes_on me now (doing_now o (Purges (h ∷ heard))) no_acts (purge_hears o.stream (purge_stage o.stream heard) h).1
+      (λ count. ends_with now o no_acts (shows.Purged me.number o.stream count))
+order_hears me now o h Reads = read_hears me now o now.reader h
+order_hears me now o h Commits = (under_way now o, no_acts)
+order_hears me now o h Confirms = (under_way now o, no_acts)
 
 -- ---- letters
 
 -- the reply to the present request
 abbrev pub reply_hears : ClientArgs → ClientNow → Option Order → MetaReply → Taken
 reply_hears me now None r = (now, no_acts)
-reply_hears me now (Some o) Expired = refused me now o (why.Expired me.session) no_acts
+reply_hears me now (Some o) Expired = ends_with now o no_acts (refusal me (why.Expired me.session))
 reply_hears me now (Some o) (Answer a) = order_hears me now o (Reply a) o.doing
 
--- a tagged message counts for the order of its line
-abbrev pub tagged_hears : ClientArgs → ClientNow → Option Order → ℕ → ℕ → Msg → Taken
+-- a tagged message counts for the order of its line alone
+abbrev pub tagged_hears : ClientArgs → ClientNow → Option Order → (tag bookie : ℕ) → Msg → Taken
 tagged_hears me now None tag b m = (now, no_acts)
 tagged_hears me now (Some o) tag b m = if tag == o.line then order_hears me now o (From b m) o.doing else (now, no_acts)
 
--- an answer to an Add counts for the writer whose ledger it names
-abbrev pub writer_hears : ClientArgs → ClientNow → Option WriterNow → ℕ → ℕ → Msg → Taken
+-- an answer to an entry counts for the writer whose ledger it names alone
+abbrev pub writer_hears : ClientArgs → ClientNow → Option WriterView → (ledger bookie : ℕ) → Msg → Taken
 writer_hears me now None ledger b m = (now, no_acts)
-writer_hears me now (Some w) ledger b m = if ledger == w.opened.ledger then after_deed me now w (log_hears w.log b m) else (now, no_acts)
+writer_hears me now (Some w) ledger b m =
+    if ledger == w.opened.ledger then after_call me now w (HearsFrom b m) (log_hears (log_now w) b m) else (now, no_acts)
 
--- a message by its kind
-abbrev pub takes_msg : ClientArgs → ClientNow → ℕ → Msg → Taken
-takes_msg me now b (msg.MetaReply session number r) =
+-- a reply counts for the present request alone
+abbrev pub meta_hears : ClientArgs → ClientNow → (session number : ℕ) → MetaReply → Taken
+meta_hears me now session number r =
     if session == me.session && number == now.asked && now.awaits then reply_hears me (record now { awaits = false }) now.order r else (now, no_acts)
+
+-- a message by its kind; a Full counts as no answer
+unfoldable pub takes_msg : ClientArgs → ClientNow → ℕ → Msg → Taken
+takes_msg me now b (msg.MetaReply session number r) = meta_hears me now session number r
 takes_msg me now b (msg.AddOk l e) = writer_hears me now now.writer l b (msg.AddOk l e)
 takes_msg me now b (msg.AddFenced l e) = writer_hears me now now.writer l b (msg.AddFenced l e)
 takes_msg me now b (msg.CopyOk t l e) = tagged_hears me now now.order t b (msg.CopyOk t l e)
 takes_msg me now b (msg.LacIs t l f n) = tagged_hears me now now.order t b (msg.LacIs t l f n)
 takes_msg me now b (msg.EntryIs t l e bytes) = tagged_hears me now now.order t b (msg.EntryIs t l e bytes)
 takes_msg me now b (msg.NoEntry t l e f) = tagged_hears me now now.order t b (msg.NoEntry t l e f)
-takes_msg me now b _ = (now, no_acts)
+takes_msg me now b m = (now, no_acts)
 
 -- the storage node that a letter is from
 abbrev pub bookie_in : Address → ℕ
 bookie_in (AtBookie b) = b
-bookie_in _ = 0
+bookie_in from = 0
 
 -- ---- lines
 
-abbrev pub begins : ClientArgs → ClientNow → (line : ℕ) → List ℕ → Doing → Request → Taken
-begins me now line s doing r =
-    goes_on me now (record { line = line; stream = s; doing = doing }) no_acts (Ask r) (λ (u : Unit {0}). (now, no_acts))
+-- an order begins with what its list does first
+abbrev pub begins : {A : Type 0} → ClientArgs → ClientNow → ℕ → List ℕ → Doing → (Order → Next A) → Taken
+begins me now line s doing first =
+    let o = record { line = line; stream = s; doing = doing } in goes_on me now o no_acts (first o) (λ a. (under_way now o, no_acts))
 
-abbrev pub begins_seek : ClientArgs → ClientNow → (line : ℕ) → List ℕ → Start → Taken
-begins_seek me now line s from = begins me now line s (Seeks from) (ListSegments s)
+abbrev pub begins_seek : ClientArgs → ClientNow → ℕ → List ℕ → Start → Taken
+begins_seek me now line s from = begins me now line s (Seeks from []) (λ o. (seek_first s).1)
 
-abbrev pub begins_read : ClientArgs → ClientNow → (line count : ℕ) → Option ReaderNow → Taken
-begins_read me now line count None = (now, no_acts)
-begins_read me now line count (Some r) =
-    let args = read_args me line count r in
-    goes_on me now (record { line = line; stream = r.stream; doing = Reads args (Listing None) }) (shown (shows.Reading me.number r.stream)) (begin_read args None).1
-      (λ rows. (now, no_acts))
-
-abbrev pub begins_open : ClientArgs → ClientNow → (line : ℕ) → List ℕ → Option WriterNow → Taken
-begins_open me now line s (Some w) = (now, refusal me (why.Busy w.line))
-begins_open me now line s None = begins me now line s (Opens (Locking MakingMember)) (MakeMember s)
+-- a client that has a writer opens no stream
+abbrev pub begins_open : ClientArgs → ClientNow → ℕ → List ℕ → Option WriterView → Taken
+begins_open me now line s (Some w) = (now, shown (refusal me (why.Busy w.line)))
+begins_open me now line s None = begins me now line s (Opens []) (λ o. (open_first (open_args me o)).1)
 
 -- an order that begins, where none is under way
-abbrev pub takes_order : ClientArgs → ClientNow → ℕ → Step → Taken
-takes_order me now line (step.Create c s) = begins me now line s (Makes Making) (MakeStream s)
-takes_order me now line (step.Remove c s) = begins me now line s (Removes Removing) (RemoveStream s)
+unfoldable pub takes_order : ClientArgs → ClientNow → ℕ → Step → Taken
+takes_order me now line (step.Create c s) = begins me now line s (Makes []) (λ o. (make_first s).1)
+takes_order me now line (step.Remove c s) = begins me now line s (Removes []) (λ o. (remove_first s).1)
 takes_order me now line (step.Open c s) = begins_open me now line s now.writer
-takes_order me now line (step.Recover c s) = begins me now line s (Recovers LookingUp) (Look s)
-takes_order me now line (step.Purge c s) = begins me now line s (Purges ListingOld) (ListSegments s)
-takes_order me now line (step.Commit c) = commits me now line now.writer
-takes_order me now line (step.Close c) = closes me now line now.writer
+takes_order me now line (step.Recover c s) = begins me now line s (Recovers []) (λ o. (recover_first (recover_args me o)).1)
+takes_order me now line (step.Purge c s) = begins me now line s (Purges []) (λ o. (purge_first s).1)
+takes_order me now line (step.Commit c) = begins_commit me now line now.writer
+takes_order me now line (step.Close c) = begins_confirm me now line now.writer
 takes_order me now line (step.SeekOldest c s) = begins_seek me now line s start.Oldest
 takes_order me now line (step.SeekPlace c s d) = begins_seek me now line s (start.Place d)
-takes_order me now line (step.SeekTxid c s t) = begins_seek me now line s (start.Tx t)
-takes_order me now line (step.Read c n) = begins_read me now line n now.reader
-takes_order me now line (step.Truncate c s d) = begins me now line s (Truncates d LookingEnd) (LookEnd s)
+takes_order me now line (step.SeekTxid c s txid) = begins_seek me now line s (start.Tx txid)
+takes_order me now line (step.Read c count) = begins_read me now line count now.reader
+takes_order me now line (step.Truncate c s d) = begins me now line s (Truncates d []) (λ o. (truncate_first (truncate_args o d)).1)
 takes_order me now line x = (now, no_acts)
 
--- a line while an order is under way is refused
+-- a client has one order under way
 abbrev pub if_free : ClientArgs → ClientNow → Option Order → ℕ → Step → Taken
-if_free me now (Some o) line x = (now, refusal me (why.Busy o.line))
+if_free me now (Some o) line x = (now, shown (refusal me (why.Busy o.line)))
 if_free me now None line x = takes_order me now line x
 
 -- records are taken and sent at once, also while an order is under way
-abbrev pub takes_line : ClientArgs → ClientNow → ℕ → Step → Taken
-takes_line me now line (step.Append c t p) = appends me now now.writer false t (p ∷ [])
-takes_line me now line (step.Set c t ps) = appends me now now.writer true t ps
+unfoldable pub takes_line : ClientArgs → ClientNow → ℕ → Step → Taken
+takes_line me now line (step.Append c txid payload) = appends_one me now now.writer txid payload
+takes_line me now line (step.Set c txid payloads) = appends_many me now now.writer txid payloads
 takes_line me now line (step.Flush c) = flushes me now now.writer
 takes_line me now line x = if_free me now now.order line x
 
 -- ---- what a client takes
 
--- what the writer has confirmed after a call
-abbrev pub confirmed_by : Option WriterNow → Option Confirmed
+-- what the writer has confirmed
+abbrev pub confirmed_by : Option WriterView → Option Confirmed
 confirmed_by None = None
-confirmed_by (Some w) = Some (record { stream = w.stream; ledger = w.opened.ledger; count = confirmed w.log.ledger })
+confirmed_by (Some w) = Some (record { stream = w.stream; ledger = w.opened.ledger; count = confirmed_count (log_now w) })
 
+-- a line, or a letter
 abbrev pub takes : ClientArgs → ClientNow → Input → Taken
 takes me now (Line line x) = takes_line me now line x
 takes me now (Came l) = takes_msg me now (bookie_in l.from) l.msg
 
--- what a client does with a line or a letter
+-- what a client does with it, and what its writer has confirmed then
 unfoldable pub client_takes : ClientArgs → ClientNow → Input → Taken
 client_takes me now x = let t = takes me now x in (t.0, record t.1 { confirmed = confirmed_by t.0.writer })
 
--- the state of a client that took these, the newest first
+-- the client that took these, the newest first
 unfoldable pub client_of : ClientArgs → List Input → ClientNow
 client_of me [] = started me
 client_of me (x ∷ view) = (client_takes me (client_of me view) x).0
@@ -478,13 +515,16 @@ acts_of me view x = (client_takes me (client_of me view) x).1
 
 -- ---- lines that lack their subject
 
--- a writer that has nothing to send, and could
-abbrev pub has_nothing : Option WriterNow → Bool
-has_nothing None = false
-has_nothing (Some w) = length w.log.building == 0 && not (is_closing w.log) && is_none (is_fenced w)
+-- a log that has nothing to send, and could
+abbrev pub has_nothing : LogNow → Bool
+has_nothing w = not (has_parts w) && not (is_closing w.mode) && is_none (fenced_at w)
+
+abbrev pub writer_has_nothing : Option WriterView → Bool
+writer_has_nothing None = false
+writer_has_nothing (Some w) = has_nothing (log_now w)
 
 -- a read without a reader, and a flush that has nothing to send
 abbrev pub lacks_subject : ClientNow → Step → Bool
-lacks_subject now (step.Read c n) = is_none now.reader
-lacks_subject now (step.Flush c) = has_nothing now.writer
-lacks_subject now _ = false
+lacks_subject now (step.Read c count) = is_none now.reader
+lacks_subject now (step.Flush c) = writer_has_nothing now.writer
+lacks_subject now x = false
