@@ -382,7 +382,7 @@ def faults(s, seed):
     text = s.fuzz.schedule(seed)
     antt, f = s.antt, s.d.function
     steps = [s.parsed_line(s.list(x))[1] for x in text.splitlines(True)]
-    well, fails, falls, unmade = (s.d.world.con("Rattle.dl_machine.specs.Runs." + n) for n in ("Well", "Fails", "Falls", "Unmade"))
+    well, fails, falls, unmade = (s.d.world.con("Rattle.dl_machine.specs.Fates." + n) for n in ("Well", "Fails", "Falls", "Unmade"))
     step_with, blank, event_line = f("dl_machine.Runs.step_with"), f("dl_machine.States.blank")(), s.event_line
     state, out, met = blank, [], 0
     for line, x in enumerate(steps, 1):

@@ -1,7 +1,7 @@
 -- The atomic steps: a client takes one line, one letter is delivered, a storage node commits its queue, the metadata node
 -- commits one request, a session begins or ends, a node stops, loads or loses its disk. What a failing device does is an atomic
 -- step too.
-use Rattle.std.specs.Prelude.{ℕ, suc, ◌+◌, Bool, true, false, if◌then◌else◌, not, ◌&&◌, List, [], ◌∷◌, ◌++◌, map, Option, Some, None, is_none, slice_get}
+use Rattle.std.specs.Prelude.{ℕ, suc, ◌+◌, Bool, true, false, if◌then◌else◌, not, ◌&&◌, List, [], ◌∷◌, ◌++◌, map, Option, Some, None, is_none, is_some, slice_get}
 use Rattle.dl_types.specs.declared.address.Address.{Address}
 use Rattle.dl_types.specs.declared.address.Address.TheVariants.{Client, Bookie as AtBookie, Meta as AtMeta}
 use Rattle.dl_types.specs.declared.meta_op.MetaOp.{MetaOp}
@@ -11,6 +11,7 @@ use Rattle.dl_msg.specs.declared.msg.Msg.{Msg}
 use Rattle.dl_msg.specs.declared.msg.Msg.TheVariants as msg
 use Rattle.dl_session.specs.declared.admit.Admit.{Admit}
 use Rattle.dl_session.specs.declared.admit.Admit.TheVariants as admit
+use Rattle.dl_session.specs.Sessions.{is_live}
 use Rattle.dl_formats.specs.declared.conf.Conf.{Conf}
 use Rattle.dl_rules_nodes.specs.Bookies.{Bookie, Taken, Reply, taken, after, answer_now, replies_of, committed, stopped}
 use Rattle.dl_rules_nodes.specs.Items.{MetaItem, Setup, Connect, Expire, Ask}
@@ -215,17 +216,19 @@ stops_meta s place kept (Some l) = if s.meta_up then stops_msg s place l.msg kep
 
 -- ---- sessions
 
--- a client's process begins, in the session after the last one
+-- a client's process begins, in the session after the last one, where the metadata node is up
 abbrev pub joins : State → ℕ → Outcome
 joins s c =
     let k = suc (meta_of s.meta.items).sessions.last in
-    (
+    if s.meta_up then (
       record s { meta = with_item s.meta (Connect k); clients = put s.clients c (Some (record { session = k; calls = s.calls c; view = [] })) },
       shows.Joined c k ∷ [],
-    )
+    ) else (s, [])
 
+-- a session that is live ends, where the metadata node is up
 abbrev pub ends : State → ℕ → Outcome
-ends s k = (record s { meta = with_item s.meta (Expire k) }, shows.Expired k ∷ [])
+ends s k =
+    if s.meta_up && is_live (meta_of s.meta.items).sessions k then (record s { meta = with_item s.meta (Expire k) }, shows.Expired k ∷ []) else (s, [])
 
 -- the world is set up once
 abbrev pub sets_up : State → Conf → State
@@ -247,7 +250,7 @@ atom s (Faint place) = (faints s place (slice_get s.letters place), [])
 atom s (Kill b) = (with_node s b (killed (s.nodes b)), [])
 atom s KillMeta = (record s { meta_up = false }, [])
 atom s (Rise b) = (with_node s b (risen (s.nodes b)), [])
-atom s RiseMeta = (record s { meta_up = true }, [])
+atom s RiseMeta = (record s { meta_up = is_some s.conf }, [])
 atom s (Loosen b other) = (with_node s b (loosened (s.nodes b).mode (s.nodes b) other), [])
 atom s (Lose b) = (with_node s b (lost (s.nodes b)), [])
 atom s (Shows event) = (s, event ∷ [])

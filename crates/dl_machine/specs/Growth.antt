@@ -32,13 +32,17 @@ Outcome = State × List Event
 
 -- ---- rows
 
--- rows that grow, in order
-abbrev pub grow_events : List ℕ → List Row → List Event
-grow_events stream rows = map (λ (r : Row). shows.Grow stream r.place r.txid r.origin.client r.origin.call r.payload) rows
+-- a row of a stream grows
+abbrev pub grow_event : List ℕ → Row → Event
+grow_event stream r = shows.Grow stream r.place r.txid r.origin.client r.origin.call r.payload
 
--- the rows of the entries from the grown count up to n
-abbrev pub growing : LedgerSeen → ℕ → List Row
-growing g n = flat_map (λ rows. rows) (take (n - g.grown) (drop g.grown g.sent))
+-- the rows of entries grow, in order
+abbrev pub grow_events : List SentEntry → List Event
+grow_events entries = flat_map (λ (x : SentEntry). map (grow_event x.stream) x.rows) entries
+
+-- the entries from the grown count up to n
+abbrev pub growing : LedgerSeen → ℕ → List SentEntry
+growing g n = take (n - g.grown) (drop g.grown g.sent)
 
 -- a ledger that has grown to n, unless it is further
 abbrev pub grown_by : LedgerSeen → ℕ → LedgerSeen
@@ -47,18 +51,22 @@ grown_by g n = record g { grown = max g.grown n }
 abbrev pub grown_to : State → ℕ → ℕ → State
 grown_to s l n = record s { ledgers = put s.ledgers l (grown_by (s.ledgers l) n) }
 
+-- a ledger grows to n
+abbrev pub grows : State → ℕ → ℕ → Outcome
+grows s l n = (grown_to s l n, grow_events (growing (s.ledgers l) n))
+
 -- a ledger of which an entry more was sent
-abbrev pub with_entry : LedgerSeen → List Row → LedgerSeen
-with_entry g rows = record g { sent = g.sent ++ rows ∷ [] }
+abbrev pub with_entry : LedgerSeen → SentEntry → LedgerSeen
+with_entry g x = record g { sent = g.sent ++ x ∷ [] }
 
 abbrev pub with_sent : State → Option SentEntry → State
 with_sent s None = s
-with_sent s (Some x) = record s { ledgers = put s.ledgers x.ledger (with_entry (s.ledgers x.ledger) x.rows) }
+with_sent s (Some x) = record s { ledgers = put s.ledgers x.ledger (with_entry (s.ledgers x.ledger) x) }
 
 -- what a writer has confirmed grows
 abbrev pub confirms : State → Option Confirmed → Outcome
 confirms s None = (s, [])
-confirms s (Some x) = (grown_to s x.ledger x.count, grow_events x.stream (growing (s.ledgers x.ledger) x.count))
+confirms s (Some x) = grows s x.ledger x.count
 
 -- ---- closings
 
@@ -125,10 +133,7 @@ closes_by t _ = None
 -- a closed segment: its rows grow up to the count, and then it is shown closed
 abbrev pub closes : State → Option Closing → Outcome
 closes s None = (s, [])
-closes s (Some x) = (
-  grown_to s x.ledger x.count,
-  grow_events x.stream (growing (s.ledgers x.ledger) x.count) ++ shows.Closed x.stream x.segment ∷ [],
-)
+closes s (Some x) = let grown = grows s x.ledger x.count in (grown.0, grown.1 ++ shows.Closed x.stream x.segment ∷ [])
 
 -- ---- points
 

@@ -3,5 +3,6 @@ pub mod Growth
 pub mod Atoms
 pub mod Lines
 pub mod Limits
+pub mod Fates
 pub mod Runs
 pub mod Replays

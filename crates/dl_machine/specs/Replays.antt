@@ -7,7 +7,8 @@ use Rattle.dl_transcript.specs.EventLines.{numbered, transcript_text}
 use Rattle.dl_machine.specs.States.{State, blank}
 use Rattle.dl_machine.specs.Growth.{Outcome}
 use Rattle.dl_machine.specs.Limits.{Traffic, no_traffic, with_letters, new_letters, Past, past_where, first_past, past_in, most_lines, most_schedule, most_transcript}
-use Rattle.dl_machine.specs.Runs.{well, line_atoms, after, events}
+use Rattle.dl_machine.specs.Fates.{well}
+use Rattle.dl_machine.specs.Runs.{line_atoms, after, events}
 
 -- a byte in front of the first line
 abbrev pub onto_first : ℕ → List (List ℕ) → List (List ℕ)

@@ -1,5 +1,5 @@
--- Each line as a list of atomic steps, with what failing devices made of each; a run is their fold.
-use Rattle.std.specs.Prelude.{ℕ, zero, suc, ◌+◌, Bool, true, false, if◌then◌else◌, not, ◌&&◌, ◌==◌, List, [], ◌∷◌, ◌++◌, length, map, Option, Some, None}
+-- Runs: each line as a list of atomic steps, with what failing devices made of each, and a run as the fold of its steps.
+use Rattle.std.specs.Prelude.{ℕ, zero, suc, ◌+◌, Bool, true, if◌then◌else◌, not, ◌&&◌, ◌==◌, List, [], ◌∷◌, ◌++◌, length, map, Option, Some, None}
 use Rattle.dl_msg.specs.declared.letter.Letter.{Letter}
 use Rattle.dl_schedule.specs.declared.step.Step.{Step}
 use Rattle.dl_schedule.specs.declared.step.Step.TheVariants as step
@@ -8,38 +8,10 @@ use Rattle.dl_transcript.specs.declared.event.Event.TheVariants as shows
 use Rattle.dl_transcript.specs.EventLines.{numbered}
 use Rattle.dl_machine.specs.States.{State, blank, bookies_of, can_take}
 use Rattle.dl_machine.specs.Growth.{Outcome}
-use Rattle.dl_machine.specs.Atoms.{Atom, SetUp, Deliver, Commit, Stop, Kill, Rise, Faint, Loosen, Shows, atom}
+use Rattle.dl_machine.specs.Atoms.{Atom, Deliver, Commit, Shows, atom}
+use Rattle.dl_machine.specs.Fates.{Luck, fated, with_luck, well, may_have}
 use Rattle.dl_machine.specs.Lines.{is_idle, plain_atoms, has_queue}
 use Rattle.dl_machine.specs.Limits.{turn_limit}
-
--- ---- failing devices
-
--- what a failing device makes of an atomic step: nothing; the call failed, and the disk holds the batch or not; the node goes
--- down after it; these storage nodes were not made
-pub data Luck : Type 0 where
-  Well : Luck
-  Fails : (kept : Bool) → Luck
-  Falls : Luck
-  Unmade : (bookies : List ℕ) → Luck
-
--- A commit that fails stops the node, with the batch or without; a letter that is looked up fails with it; a load that fails may
--- change what the disk holds of the last commit.
-unfoldable pub fated : Luck → Atom → List Atom
-fated (Fails kept) (Commit b) = Stop b kept ∷ []
-fated (Fails kept) (Deliver place) = Faint place ∷ []
-fated (Fails kept) (Rise b) = Loosen b kept ∷ []
-fated Falls (Commit b) = Commit b ∷ Kill b ∷ []
-fated (Unmade bookies) (SetUp conf) = SetUp conf ∷ map Kill bookies
-fated _ a = a ∷ []
-
--- the lucks of a line are numbered by its atomic steps
-unfoldable pub with_luck : (ℕ → Luck) → ℕ → List Atom → List Atom
-with_luck luck i [] = []
-with_luck luck i (a ∷ more) = fated (luck i) a ++ with_luck luck (suc i) more
-
--- no device fails
-abbrev pub well : ℕ → Luck
-well i = Well
 
 -- ---- atomic steps in order
 
@@ -87,6 +59,21 @@ unfoldable pub settles : (ℕ → Luck) → ℕ → ℕ → State → List Atom
 settles luck zero i s = []
 settles luck (suc n) i s = go_on s (turn s) (with_luck luck i (turn s)) i (settles luck n)
 
+-- each step of a list has a luck that it may have, where the devices of these storage nodes failed
+unfoldable pub are_fit : (ℕ → Bool) → (ℕ → Luck) → ℕ → State → List Atom → Bool
+are_fit failed luck i s [] = true
+are_fit failed luck i s (a ∷ more) = may_have failed s (luck i) a && are_fit failed luck (suc i) (after s (fated (luck i) a)) more
+
+-- the same of a settling, turn by turn
+abbrev pub fit_on : (ℕ → Bool) → (ℕ → Luck) → State → List Atom → ℕ → (ℕ → State → Bool) → Bool
+fit_on failed luck s [] i rest = true
+fit_on failed luck s (a ∷ more) i rest =
+    are_fit failed luck i s (a ∷ more) && rest (i + length (a ∷ more)) (after s (with_luck luck i (a ∷ more)))
+
+unfoldable pub settles_fit : (ℕ → Bool) → (ℕ → Luck) → ℕ → ℕ → State → Bool
+settles_fit failed luck zero i s = true
+settles_fit failed luck (suc n) i s = fit_on failed luck s (turn s) i (settles_fit failed luck n)
+
 -- ---- lines and runs
 
 abbrev pub line_at : (ℕ → Luck) → State → ℕ → Step → List Atom
@@ -96,6 +83,14 @@ line_at luck s line x = with_luck luck 0 (plain_atoms s line x)
 -- the atomic steps of the line of this number
 unfoldable pub line_atoms : (ℕ → Luck) → State → ℕ → Step → List Atom
 line_atoms luck s line x = if is_idle s x then Shows shows.Nothing ∷ [] else line_at luck s line x
+
+-- the lucks of a line are such as the devices of these storage nodes, which failed, may have made
+abbrev pub fit_at : (ℕ → Bool) → (ℕ → Luck) → State → ℕ → Step → Bool
+fit_at failed luck s line step.Settle = settles_fit failed luck turn_limit 0 s
+fit_at failed luck s line x = are_fit failed luck 0 s (plain_atoms s line x)
+
+unfoldable pub is_fit : (ℕ → Bool) → (ℕ → Luck) → State → ℕ → Step → Bool
+is_fit failed luck s line x = if is_idle s x then true else fit_at failed luck s line x
 
 -- a line: the state that it leaves, and what it shows
 unfoldable pub step_with : (ℕ → Luck) → State → ℕ → Step → Outcome

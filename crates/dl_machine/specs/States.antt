@@ -3,13 +3,12 @@
 use Rattle.std.specs.Prelude.{ℕ, suc, Bool, true, false, if◌then◌else◌, ◌==◌, List, [], ◌∷◌, Option, Some, None, slice_index_or}
 use Rattle.dl_types.specs.declared.address.Address.{Address}
 use Rattle.dl_types.specs.declared.address.Address.TheVariants.{Client, Bookie as AtBookie, Meta as AtMeta}
-use Rattle.dl_types.specs.declared.row.Row.{Row}
 use Rattle.dl_msg.specs.declared.letter.Letter.{Letter}
 use Rattle.dl_formats.specs.declared.conf.Conf.{Conf}
 use Rattle.dl_rules_nodes.specs.Bookies.{Bookie, empty_bookie}
 use Rattle.dl_rules_nodes.specs.Items.{MetaItem, Setup}
 use Rattle.dl_rules_nodes.specs.Metadata.{MetaNode}
-use Rattle.dl_rules_client.specs.Acts.{Input, ClientArgs}
+use Rattle.dl_rules_client.specs.Acts.{Input, ClientArgs, SentEntry}
 
 -- a storage node takes messages, or is down until it is loaded, or has lost its disk for good
 pub data Mode : Type 0 where
@@ -26,7 +25,7 @@ pub record Node : Type 0 where
 
 -- What was sent of a segment's ledger in this run, entry by entry, and how many of its entries have grown.
 pub record LedgerSeen : Type 0 where
-  pub sent : List (List Row)
+  pub sent : List SentEntry
   pub grown : ℕ
 
 -- A client process: its session, how many records earlier ones have had taken, and what it took, the newest first.

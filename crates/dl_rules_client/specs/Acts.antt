@@ -27,9 +27,8 @@ pub record SentEntry : Type 0 where
   pub entry : ℕ
   pub rows : List Row
 
--- How many entries a client's writer has confirmed.
+-- How many entries of its ledger a client's writer has confirmed.
 pub record Confirmed : Type 0 where
-  pub stream : List ℕ
   pub ledger : ℕ
   pub count : ℕ
 

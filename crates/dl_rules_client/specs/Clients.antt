@@ -224,9 +224,13 @@ took_events me s txid call (p ∷ ps) = shows.Took me.number call s txid p ∷ t
 abbrev pub with_taken : ClientArgs → WriterView → (txid call : ℕ) → List (List ℕ) → Acts → Acts
 with_taken me w txid call payloads acts = record acts { events = acts.events ++ took_events me w.stream txid call payloads; taken = length payloads }
 
+-- a refused call leaves the log as it was
+abbrev pub refused_call : ClientArgs → ClientNow → WriterView → LogCall → Refusal → Taken
+refused_call me now w call r = (record now { writer = Some (with_call w call) }, shown (refusal me r))
+
 -- what becomes of a call by which records are taken
 abbrev pub took : ClientArgs → ClientNow → WriterView → LogCall → ℕ → List (List ℕ) → Result LogMove Refusal → Taken
-took me now w call txid payloads (Err r) = (now, shown (refusal me r))
+took me now w call txid payloads (Err r) = refused_call me now w call r
 took me now w call txid payloads (Ok m) = (
   record now { writer = Some (with_call w call); taken = now.taken + length payloads },
   with_taken me w txid (suc now.taken) payloads (move_acts me w m),
@@ -249,7 +253,7 @@ appends_many me now (Some w) txid payloads =
 
 -- what was taken is sent
 abbrev pub flushed : ClientArgs → ClientNow → WriterView → Result LogMove Refusal → Taken
-flushed me now w (Err r) = (now, shown (refusal me r))
+flushed me now w (Err r) = refused_call me now w Flushes r
 flushed me now w (Ok m) = (record now { writer = Some (with_call w Flushes) }, move_acts me w m)
 
 abbrev pub flushes : ClientArgs → ClientNow → Option WriterView → Taken
@@ -301,7 +305,7 @@ after_call me now w call m =
 
 -- a commit or a close begins, or is refused
 abbrev pub begins_on_log : ClientArgs → ClientNow → ℕ → WriterView → Doing → LogCall → Result LogMove Refusal → Taken
-begins_on_log me now line w doing call (Err r) = (now, shown (refusal me r))
+begins_on_log me now line w doing call (Err r) = refused_call me now w call r
 begins_on_log me now line w doing call (Ok m) = after_call me (under_way now (record { line = line; stream = w.stream; doing = doing })) w call m
 
 abbrev pub begins_commit : ClientArgs → ClientNow → ℕ → Option WriterView → Taken
@@ -493,7 +497,7 @@ takes_line me now line x = if_free me now now.order line x
 -- what the writer has confirmed
 abbrev pub confirmed_by : Option WriterView → Option Confirmed
 confirmed_by None = None
-confirmed_by (Some w) = Some (record { stream = w.stream; ledger = w.opened.ledger; count = confirmed_count (log_now w) })
+confirmed_by (Some w) = Some (record { ledger = w.opened.ledger; count = confirmed_count (log_now w) })
 
 -- a line, or a letter
 abbrev pub takes : ClientArgs → ClientNow → Input → Taken
