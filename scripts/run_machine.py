@@ -409,12 +409,23 @@ def faults(s, seed):
 PARTS = {"lines": lines, "rows": rows, "fuzz": fuzz, "limits": limits, "legal": legal, "faults": faults}
 
 
+KEPT_SIDES = {}
+
+
+def sides(options):
+    """The two sides, made once in each process."""
+    key = options.tools, options.model, options.crates, options.unused
+    if key not in KEPT_SIDES:
+        KEPT_SIDES[key] = Sides(*key)
+    return KEPT_SIDES[key]
+
+
 def work(args):
     options, part, seeds = args
     out = []
 
     def run():
-        s = Sides(options.tools, options.model, options.crates, options.unused)
+        s = sides(options)
         told = {}
         for seed in seeds:
             try:
@@ -446,10 +457,12 @@ def compare(options):
         seeds = list(range(*options.seeds)) if part != "rows" else [0]
         jobs += [(options, part, seeds[i : i + CHUNK]) for i in range(0, len(seeds), CHUNK)]
     told, used, known, fault = {}, set(), set(), None
-    with multiprocessing.Pool(options.jobs, maxtasksperchild=8) as pool:
-        for r in pool.imap_unordered(work, jobs):
+    with multiprocessing.Pool(options.jobs, maxtasksperchild=20) as pool:
+        for i, r in enumerate(pool.imap_unordered(work, jobs), 1):
             for k, n in r[0].items():
                 told[k] = told.get(k, 0) + n
+            if sys.stderr.isatty() or i % 10 == 0:
+                print("%d of %d, %s" % (i, len(jobs), told), file=sys.stderr, flush=True)
             used |= r[1]
             known |= r[3] if len(r) > 3 else set()
             if r[2]:
@@ -503,6 +516,7 @@ def main():
     p.add_argument("--unused", action="store_true")
     p.add_argument("--wrong")
     options = p.parse_args()
+    options.crates = os.path.abspath(options.crates)
     if options.wrong:
         wrong(options)
     start = time.time()

@@ -454,7 +454,7 @@ bookie_in from = 0
 -- an order begins with what its list does first
 abbrev pub begins : {A : Type 0} → ClientArgs → ClientNow → ℕ → List ℕ → Doing → (Order → Next A) → Taken
 begins me now line s doing first =
-    let o = record { line = line; stream = s; doing = doing } in goes_on me now o no_acts (first o) (λ a. (under_way now o, no_acts))
+    let o : Order = record { line = line; stream = s; doing = doing } in goes_on me now o no_acts (first o) (λ a. (under_way now o, no_acts))
 
 abbrev pub begins_seek : ClientArgs → ClientNow → ℕ → List ℕ → Start → Taken
 begins_seek me now line s from = begins me now line s (Seeks from []) (λ o. (seek_first s).1)
