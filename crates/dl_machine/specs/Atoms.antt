@@ -14,8 +14,8 @@ use Rattle.dl_session.specs.declared.admit.Admit.TheVariants as admit
 use Rattle.dl_session.specs.Sessions.{is_live}
 use Rattle.dl_formats.specs.declared.conf.Conf.{Conf}
 use Rattle.dl_rules_nodes.specs.Bookies.{Bookie, Taken, Reply, taken, after, answer_now, replies_of, committed, stopped}
-use Rattle.dl_rules_nodes.specs.Items.{MetaItem, Setup, Connect, Expire, Ask}
-use Rattle.dl_rules_nodes.specs.Metadata.{Meta, meta_of, admit_of, answer_of, reply_of, with_item}
+use Rattle.dl_rules_nodes.specs.Items.{Setup, Connect, Expire, Ask}
+use Rattle.dl_rules_nodes.specs.Metadata.{meta_of, admit_of, answer_of, reply_of, with_item}
 use Rattle.dl_rules_client.specs.Acts.{Input, Line, Came, Acts}
 use Rattle.dl_rules_client.specs.Clients.{acts_of}
 use Rattle.dl_schedule.specs.declared.step.Step.{Step}

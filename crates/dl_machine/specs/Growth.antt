@@ -1,6 +1,6 @@
 -- How streams grow: the rows of entries that are confirmed, or that a closed ledger keeps, each once and in order; and what a
 -- request that ran shows at the metadata node.
-use Rattle.std.specs.Prelude.{ℕ, ◌+◌, ◌-◌, max, Bool, true, false, if◌then◌else◌, ◌&&◌, ◌==◌, List, [], ◌∷◌, ◌++◌, length, map, take, drop, flat_map, filter_map, Option, Some, None, Result, Ok, Err, bytes_eq}
+use Rattle.std.specs.Prelude.{ℕ, ◌+◌, ◌-◌, max, Bool, true, false, if◌then◌else◌, List, [], ◌∷◌, ◌++◌, length, map, take, drop, flat_map, filter_map, Option, Some, None, Result, Ok, Err, bytes_eq}
 use Rattle.std.specs.FinMap.{get, keys}
 use Rattle.dl_types.specs.declared.meta_answer.MetaAnswer.{MetaAnswer}
 use Rattle.dl_types.specs.declared.meta_answer.MetaAnswer.TheVariants as answer
@@ -15,9 +15,9 @@ use Rattle.dl_formats.specs.declared.cut.Cut.{Cut}
 use Rattle.dl_formats.specs.declared.fault.MetaBytesFault.{MetaBytesFault}
 use Rattle.dl_formats.specs.declared.ledger.LedgerFields.{LedgerFields}
 use Rattle.dl_formats.specs.declared.ledger.LedgerState.{LedgerState}
-use Rattle.dl_formats.specs.declared.ledger.LedgerState.TheVariants.{Writing, Recovering, Closed}
+use Rattle.dl_formats.specs.declared.ledger.LedgerState.TheVariants.{Closed}
 use Rattle.dl_formats.specs.declared.segment.SegmentMeta.{SegmentMeta}
-use Rattle.dl_formats.specs.declared.segment.SegmentMeta.TheVariants.{InProgress, Completed}
+use Rattle.dl_formats.specs.declared.segment.SegmentMeta.TheVariants.{InProgress}
 use Rattle.dl_formats.specs.Keys as key
 use Rattle.dl_formats.specs.Keys.{path_of}
 use Rattle.dl_formats.specs.Reading.{ledger_at, segment_at, cut_at}

@@ -1,5 +1,5 @@
 -- The limits of a run, and the first of them that a step passes.
-use Rattle.std.specs.Prelude.{ℕ, suc, ◌+◌, ◌-◌, ◌*◌, ◌^◌, Bool, true, false, if◌then◌else◌, not, nat_lt, nat_le, List, [], ◌∷◌, length, drop, Option, Some, None, is_some, slice_get}
+use Rattle.std.specs.Prelude.{ℕ, suc, ◌+◌, ◌*◌, Bool, if◌then◌else◌, not, nat_lt, nat_le, List, [], ◌∷◌, length, drop, Option, Some, None, slice_get}
 use Rattle.dl_types.specs.declared.limit.LimitName.{LimitName}
 use Rattle.dl_types.specs.declared.limit.LimitName.TheVariants as limit
 use Rattle.dl_msg.specs.declared.letter.Letter.{Letter}
@@ -8,7 +8,7 @@ use Rattle.dl_msg.specs.declared.msg.Msg.TheVariants as msg
 use Rattle.dl_msg.specs.Messages.{msg_bytes}
 use Rattle.dl_rules_nodes.specs.Limits.{longest_journal, greatest_session}
 use Rattle.dl_rules_nodes.specs.Items.{MetaItem, Expire}
-use Rattle.dl_rules_nodes.specs.Metadata.{Meta, meta_of, item_of, has_room, next_session}
+use Rattle.dl_rules_nodes.specs.Metadata.{meta_of, item_of, has_room, next_session}
 use Rattle.dl_schedule.specs.declared.step.Step.{Step}
 use Rattle.dl_schedule.specs.declared.step.Step.TheVariants as step
 use Rattle.dl_machine.specs.States.{State, can_take}

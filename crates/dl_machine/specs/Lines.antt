@@ -1,5 +1,5 @@
 -- The lines of a schedule: which of them change nothing, and the atomic steps of each of the others.
-use Rattle.std.specs.Prelude.{ℕ, zero, suc, ◌+◌, ◌-◌, Bool, true, false, if◌then◌else◌, not, ◌&&◌, ◌||◌, ◌==◌, nat_lt, nat_le, List, [], ◌∷◌, ◌++◌, length, map, Option, Some, None, is_some, is_none, slice_get}
+use Rattle.std.specs.Prelude.{ℕ, zero, suc, ◌+◌, ◌-◌, Bool, true, false, if◌then◌else◌, not, ◌&&◌, ◌||◌, ◌==◌, nat_lt, nat_le, List, [], ◌∷◌, length, map, Option, Some, None, is_some, is_none, slice_get}
 use Rattle.dl_types.specs.declared.address.Address.{Address}
 use Rattle.dl_types.specs.declared.address.Address.TheVariants.{Client, Bookie as AtBookie, Meta as AtMeta}
 use Rattle.dl_msg.specs.declared.letter.Letter.{Letter}
@@ -9,7 +9,7 @@ use Rattle.dl_session.specs.declared.admit.Admit.{Admit}
 use Rattle.dl_session.specs.declared.admit.Admit.TheVariants as admit
 use Rattle.dl_session.specs.Sessions.{is_live}
 use Rattle.dl_formats.specs.declared.conf.Conf.{Conf}
-use Rattle.dl_rules_nodes.specs.Metadata.{Meta, meta_of, admit_of}
+use Rattle.dl_rules_nodes.specs.Metadata.{meta_of, admit_of}
 use Rattle.dl_rules_client.specs.Clients.{client_of, lacks_subject}
 use Rattle.dl_schedule.specs.declared.node.Node as target
 use Rattle.dl_schedule.specs.declared.node.Node.TheVariants.{Bookie, Meta as TheMeta}
@@ -17,7 +17,7 @@ use Rattle.dl_schedule.specs.declared.step.Step.{Step}
 use Rattle.dl_schedule.specs.declared.step.Step.TheVariants as step
 use Rattle.dl_transcript.specs.declared.event.Event.{Event}
 use Rattle.dl_transcript.specs.declared.event.Event.TheVariants as shows
-use Rattle.dl_machine.specs.States.{State, Node, Mode, Up, Down, Lost, Joined, is_up, is_down, is_lost, can_take, bookies_of, args_of}
+use Rattle.dl_machine.specs.States.{State, Node, Joined, is_up, is_down, is_lost, can_take, bookies_of, args_of}
 use Rattle.dl_machine.specs.Atoms.{Atom, SetUp, Join, Crash, End, Order, Deliver, Commit, Stop, StopMeta, Kill, KillMeta, Rise, RiseMeta, Lose, Shows}
 
 -- ---- links

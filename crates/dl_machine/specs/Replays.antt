@@ -5,7 +5,6 @@ use Rattle.dl_schedule.specs.declared.step.Step.{Step}
 use Rattle.dl_schedule.specs.StepReading.{parsed_line}
 use Rattle.dl_transcript.specs.EventLines.{numbered, transcript_text}
 use Rattle.dl_machine.specs.States.{State, blank}
-use Rattle.dl_machine.specs.Growth.{Outcome}
 use Rattle.dl_machine.specs.Limits.{Traffic, no_traffic, with_letters, new_letters, Past, past_where, first_past, past_in, most_lines, most_schedule, most_transcript}
 use Rattle.dl_machine.specs.Fates.{well}
 use Rattle.dl_machine.specs.Runs.{line_atoms, after, events}

@@ -1,5 +1,5 @@
 -- What a client takes, and what it does with it.
-use Rattle.std.specs.Prelude.{ℕ, List, [], ◌∷◌, ◌++◌, Option, None}
+use Rattle.std.specs.Prelude.{ℕ, List, [], Option, None}
 use Rattle.dl_types.specs.declared.row.Row.{Row}
 use Rattle.dl_msg.specs.declared.letter.Letter.{Letter}
 use Rattle.dl_formats.specs.declared.conf.Conf.{Conf}

@@ -1,6 +1,6 @@
 -- A client process: its order under way, its writer and its reader, as a fold over all that it took. Each task in it is a view of
 -- that task: what the task was started with, and what the client gave it, the newest first.
-use Rattle.std.specs.Prelude.{ℕ, suc, ◌+◌, Bool, true, false, if◌then◌else◌, not, ◌&&◌, ◌==◌, nat_lt, List, [], ◌∷◌, ◌++◌, length, map, Option, Some, None, is_none, is_some, option_map, Result, Ok, Err}
+use Rattle.std.specs.Prelude.{ℕ, suc, ◌+◌, Bool, true, false, if◌then◌else◌, not, ◌&&◌, ◌==◌, nat_lt, List, [], ◌∷◌, ◌++◌, length, map, Option, Some, None, is_none, option_map, Result, Ok, Err}
 use Rattle.dl_types.specs.declared.address.Address.{Address}
 use Rattle.dl_types.specs.declared.address.Address.TheVariants.{Client, Bookie as AtBookie, Meta as AtMeta}
 use Rattle.dl_types.specs.declared.dlsn.Dlsn.{Dlsn}
@@ -33,7 +33,7 @@ use Rattle.dl_rules_stream.specs.Removes.{remove_first, remove_hears, remove_sta
 use Rattle.dl_rules_stream.specs.Opens.{OpenArgs, Opened, open_first, open_hears, open_recovers, open_stage}
 use Rattle.dl_rules_stream.specs.Recovers.{RecoverArgs, Found, Whole, Completes, recover_first, recover_hears, recover_stage}
 use Rattle.dl_rules_stream.specs.Closes.{CloseArgs, close_first, close_hears, close_stage}
-use Rattle.dl_rules_stream.specs.Seeks.{Position, position_at, seek_first, seek_hears, seek_stage}
+use Rattle.dl_rules_stream.specs.Seeks.{position_at, seek_first, seek_hears, seek_stage}
 use Rattle.dl_rules_stream.specs.Truncates.{TruncateArgs, truncate_first, truncate_hears, truncate_stage}
 use Rattle.dl_rules_stream.specs.Purges.{purge_first, purge_hears, purge_stage}
 use Rattle.dl_rules_stream.specs.LogWriters.{LogArgs, LogCall, Appends, AppendsSet, Flushes, Commits as CallsCommit, Closes as CallsClose, HearsFrom, LogNow, LogMove, LogState, HasCommitted, MayClose, IsFenced, log_of, log_state, appends, appends_set, log_flushes, commits, closes, log_hears, sent_count, confirmed_count, fenced_at, is_closing, has_parts, last_sent_entry}

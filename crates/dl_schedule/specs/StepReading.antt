@@ -1,5 +1,5 @@
 -- Reading a line of a schedule from the left, or how many bytes are left where no line goes on.
-use Rattle.std.specs.Prelude.{ℕ, zero, suc, Bool, ◌==◌, List, [], ◌∷◌, Result, Ok, Err}
+use Rattle.std.specs.Prelude.{ℕ, zero, suc, Bool, ◌==◌, List, [], ◌∷◌, Result, Ok}
 use Rattle.dl_types.specs.declared.address.Address.{Address}
 use Rattle.dl_types.specs.declared.address.Address.TheVariants as address
 use Rattle.dl_text.specs.Readers.{then_at, map_at, whole_at}

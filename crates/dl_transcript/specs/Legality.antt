@@ -1,6 +1,6 @@
 -- When a transcript is legal: each stream is one list that grows, and each event keeps its rule. What was shown is
 -- folded into what the rules of later events ask for; an event without a rule leaves it.
-use Rattle.std.specs.Prelude.{ℕ, suc, ◌+◌, ◌-◌, ◌^◌, Bool, true, false, if◌then◌else◌, not, ◌&&◌, ◌||◌, ◌==◌, nat_lt, nat_le, List, [], ◌∷◌, ◌++◌, length, map, filter, drop, Option, Some, None, is_some, is_none, slice_get, bytes_eq, unwrap_or}
+use Rattle.std.specs.Prelude.{ℕ, suc, ◌+◌, ◌-◌, Bool, true, false, if◌then◌else◌, not, ◌&&◌, ◌||◌, ◌==◌, nat_le, List, [], ◌∷◌, ◌++◌, length, map, filter, drop, Option, Some, None, is_some, is_none, slice_get, bytes_eq, unwrap_or}
 use Rattle.std.specs.List.{list_any, list_all}
 use Rattle.dl_types.specs.declared.dlsn.Dlsn.{Dlsn}
 use Rattle.dl_types.specs.declared.read_row.ReadRow.{ReadRow}
