@@ -1,12 +1,13 @@
 #!/bin/sh
 # Counts the device calls of one commit beside those that write the same body raw, times both on a depot in memory, and
-# times load over files of growing size, beside a plain copy of the same bytes. Run it at the top of the repository: it
-# makes a scratch repository with the program, proves it, and runs it three times; the least of the three times is told.
+# times load over files of growing size, beside a plain copy of the same bytes. It makes a scratch repository with the
+# program, proves it, and runs it three times; the least of the three times is told.
 #
 # A commit is two writes and two syncs, of 14 bytes more than the body, however large the file is: so its time is to stay
 # the same at each number of commits. A load is one pass: so it is to cost so many plain copies, whatever the size of the
 # file. Both times of a large file rise with the memory that is touched for the first time.
 set -e
+cd "$(dirname "$(readlink -f "$0")")/.."
 . bench/scratch.sh
 scratch_with bench_journals "dl_types dl_depot dl_journal byteorder thiserror" dl_types dl_depot dl_journal
 mkdir "$bench/proofs/commit_all"

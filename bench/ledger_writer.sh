@@ -2,9 +2,10 @@
 # Measures what sending an entry and hearing its acknowledgements cost, at ledgers of 1,000 to 1,000,000 entries and with
 # entries of 1 byte and of 1 MiB: an entry is to cost the same at every length of the ledger, and at every size, since its
 # bytes are shared. Measures also what it costs to decode a message with an entry of 1 MiB, beside a plain copy of the same
-# bytes. Run it at the top of the repository: it makes a scratch repository with the program, proves it, which takes some
+# bytes. It makes a scratch repository with the program, proves it, which takes some
 # minutes, and runs it.
 set -e
+cd "$(dirname "$(readlink -f "$0")")/.."
 . bench/scratch.sh
 scratch_with bench_writer "dl_types dl_msg dl_lwrite bytes" dl_types dl_codec dl_record dl_fields dl_msg dl_quorum dl_rules_ledger dl_lwrite
 cat > "$bench/src/main.rt" <<'P'

@@ -1,7 +1,8 @@
 #!/bin/sh
 # Measures how many bytes a second decode_entry, encode_entry and RowWalk pass, beside a plain copy of the same bytes.
-# Run it at the top of the repository: it makes a scratch repository with the program, proves it, and runs it.
+# It makes a scratch repository with the program, proves it, and runs it.
 set -e
+cd "$(dirname "$(readlink -f "$0")")/.."
 . bench/scratch.sh
 scratch_with bench_records "dl_types dl_codec dl_record" dl_types dl_codec dl_record
 # an entry of 1,000 plain records of 1,000 bytes

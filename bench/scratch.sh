@@ -1,4 +1,4 @@
-# Sourced by the measuring scripts, which are run at the top of the repository.
+# Sourced by the measuring scripts, which go to the top of the repository first.
 
 top=$(pwd)
 scratch=$(mktemp -d)

@@ -2,8 +2,9 @@ ghost use Rattle.std.specs.Prelude.{◌≡◌, None};
 
 use crate::traits::{ReadFailed, Sink, Source, WriteFailed};
 use std::io::Read;
+use std::marker::Model;
 
-/// Standard input. It tells no bytes: what the system gives is trusted.
+/// Standard input. It tells no bytes: what the system gives is trusted. Contracts see how many of its calls failed.
 #[derive(Drop)]
 pub struct StdSource<R: Input> {
     reader: R::Reader,
@@ -11,10 +12,18 @@ pub struct StdSource<R: Input> {
     faults: u64,
 }
 
+impl<R: Input> Model for StdSource<R> {
+    ghost use Rattle.std.specs.Prelude.{ℕ};
+
+    ghost Value = { ℕ };
+
+    ghost view = { λ s. s.faults };
+}
+
 impl<R: Input + Clone + Drop> StdSource<R> {
     /// The standard input of this runtime. It keeps one reader, which reads ahead.
     pub fn new(rt: R) -> StdSource<R>
-        ensures { (⟦<StdSource<R> as Source>⟧).read_faults result ≡ 0 }
+        ensures { result ≡ 0 }
     {
         let reader = rt.reader();
         StdSource {
@@ -28,7 +37,7 @@ impl<R: Input + Clone + Drop> StdSource<R> {
 impl<R: Input + Clone + Drop> Source for StdSource<R> {
     ghost left = { λ _. None };
 
-    ghost read_faults = { λ s. s.faults };
+    ghost read_faults = { λ faults. faults };
 
     fn take(&mut self, into: &mut [u8]) -> Result<usize, ReadFailed> {
         match self.reader.read(into) {
@@ -42,17 +51,25 @@ impl<R: Input + Clone + Drop> Source for StdSource<R> {
 }
 
 /// Standard output. It tells no bytes: what the system takes is trusted. A write goes to the system at once, so `finish`
-/// has nothing to do.
+/// has nothing to do. Contracts see how many of its calls failed.
 #[derive(Drop)]
 pub struct StdSink<R> {
     rt: R,
     faults: u64,
 }
 
+impl<R> Model for StdSink<R> {
+    ghost use Rattle.std.specs.Prelude.{ℕ};
+
+    ghost Value = { ℕ };
+
+    ghost view = { λ s. s.faults };
+}
+
 impl<R: Print + Clone + Drop> StdSink<R> {
     /// The standard output of this runtime.
     pub fn new(rt: R) -> StdSink<R>
-        ensures { (⟦<StdSink<R> as Sink>⟧).write_faults result ≡ 0 }
+        ensures { result ≡ 0 }
     {
         StdSink { rt, faults: 0 }
     }
@@ -63,7 +80,7 @@ impl<R: Print + Clone + Drop> Sink for StdSink<R> {
 
     ghost finished = { λ _. None };
 
-    ghost write_faults = { λ s. s.faults };
+    ghost write_faults = { λ faults. faults };
 
     fn give(&mut self, bytes: &[u8]) -> Result<usize, WriteFailed> {
         if bytes.is_empty() {
@@ -84,17 +101,25 @@ impl<R: Print + Clone + Drop> Sink for StdSink<R> {
 }
 
 /// Standard error, for text: bytes that are not UTF-8 are a fault. It tells no bytes: what the system takes is trusted.
-/// A write goes to the system at once, so `finish` has nothing to do.
+/// A write goes to the system at once, so `finish` has nothing to do. Contracts see how many of its calls failed.
 #[derive(Drop)]
 pub struct NoteSink<R> {
     rt: R,
     faults: u64,
 }
 
+impl<R> Model for NoteSink<R> {
+    ghost use Rattle.std.specs.Prelude.{ℕ};
+
+    ghost Value = { ℕ };
+
+    ghost view = { λ s. s.faults };
+}
+
 impl<R: Eprint + Clone + Drop> NoteSink<R> {
     /// The standard error of this runtime.
     pub fn new(rt: R) -> NoteSink<R>
-        ensures { (⟦<NoteSink<R> as Sink>⟧).write_faults result ≡ 0 }
+        ensures { result ≡ 0 }
     {
         NoteSink { rt, faults: 0 }
     }
@@ -105,7 +130,7 @@ impl<R: Eprint + Clone + Drop> Sink for NoteSink<R> {
 
     ghost finished = { λ _. None };
 
-    ghost write_faults = { λ s. s.faults };
+    ghost write_faults = { λ faults. faults };
 
     fn give(&mut self, bytes: &[u8]) -> Result<usize, WriteFailed> {
         if let Ok(text) = std::str::from_utf8(bytes) {

@@ -1,6 +1,7 @@
 -- A replay: the bytes of a schedule, and the bytes of its transcript up to the stop.
 use Rattle.std.specs.Prelude.{ℕ, suc, ◌+◌, if◌then◌else◌, ◌==◌, nat_lt, List, [], ◌∷◌, ◌++◌, length, Option, Some, None, Result, Ok, Err}
 use Rattle.dl_types.specs.declared.limit.LimitName.TheVariants as limit
+use Rattle.dl_text.specs.TextLines.{lines_of}
 use Rattle.dl_schedule.specs.declared.step.Step.{Step}
 use Rattle.dl_schedule.specs.StepReading.{parsed_line}
 use Rattle.dl_transcript.specs.EventLines.{numbered, transcript_text}
@@ -8,16 +9,6 @@ use Rattle.dl_machine.specs.States.{State, blank}
 use Rattle.dl_machine.specs.Limits.{Traffic, no_traffic, with_letters, new_letters, Past, past_where, first_past, past_in, most_lines, most_schedule, most_transcript}
 use Rattle.dl_machine.specs.Fates.{well}
 use Rattle.dl_machine.specs.Runs.{line_atoms, after, events}
-
--- a byte in front of the first line
-abbrev pub onto_first : ℕ → List (List ℕ) → List (List ℕ)
-onto_first b [] = (b ∷ []) ∷ []
-onto_first b (line ∷ lines) = (b ∷ line) ∷ lines
-
--- the lines of a text, each with its line feed; what stands behind the last one is a line too
-unfoldable pub lines_of : List ℕ → List (List ℕ)
-lines_of [] = []
-lines_of (b ∷ bytes) = if b == 10 then (10 ∷ []) ∷ lines_of bytes else onto_first b (lines_of bytes)
 
 -- how a replay ends: all lines were run; a line is outside the grammar at a column; a limit is passed
 pub data Ended : Type 0 where

@@ -15,7 +15,7 @@ use Rattle.dl_schedule.specs.declared.verb.Verb.{Verb}
 use Rattle.dl_schedule.specs.declared.verb.Verb.TheVariants as verb
 use Rattle.dl_schedule.specs.declared.verb.Opening.{Opening}
 use Rattle.dl_schedule.specs.Verbs.{verb_text, verbs}
-use Rattle.dl_schedule.specs.Lines.{space, line_feed, first_word, print_rest, print_step, opening_step, opening_text, opening_at, IsFree, IsSaidBy, IsEarly}
+use Rattle.dl_schedule.specs.Lines.{space, line_feed, greatest_txid, first_word, print_rest, print_step, opening_step, opening_text, opening_at, IsFree, IsSaidBy, IsEarly}
 use Rattle.dl_schedule.specs.Reading.{client_at, append_at, flush_at, settle_at, rest_at, free_at, fixed_at, said_at}
 
 -- first words
@@ -41,8 +41,8 @@ low_byte end low c l h = λ e. omega (arith, e)
 client : (end : ℕ) → end < 48 → Exact (IsWithin 0 0) (number end) (client_at end)
 client end low = number_exact 0 0 end (record { low_high = lit≤ tt; low_small = lit≤ tt; high_fits = lit< tt; end_apart = low_byte end low })
 
-txid : Exact (IsWithin 0 9223372036854775807) (number space) (number_at 0 9223372036854775807 space)
-txid = number_exact 0 9223372036854775807 space (record { low_high = lit≤ tt; low_small = lit≤ tt; high_fits = lit< tt; end_apart = low_byte space (lit< tt) })
+txid : Exact (IsWithin 0 greatest_txid) (number space) (number_at 0 greatest_txid space)
+txid = number_exact 0 greatest_txid space (record { low_high = lit≤ tt; low_small = lit≤ tt; high_fits = lit< tt; end_apart = low_byte space (lit< tt) })
 
 -- lines behind their first words
 
@@ -69,7 +69,7 @@ append_exact = made_exact _ _ _ (λ x. Append x.0 x.1.0 x.1.1) (IsLine verb.Appe
     (then_exact _ _ _ _ _ _ (client space (lit< tt)) (λ c v. then_exact _ _ _ _ _ _ txid (λ t w. hex_exact line_feed (lit< tt))))
     (λ x v. ((v, refl), refl)) from
   where
-    from : (s : Step) → IsLine verb.Append s → (x : ℕ × (ℕ × List ℕ)) × (IsWithin 0 0 x.0 × (IsWithin 0 9223372036854775807 x.1.0 × AllBytes x.1.1)) × (Append x.0 x.1.0 x.1.1 ≡ s)
+    from : (s : Step) → IsLine verb.Append s → (x : ℕ × (ℕ × List ℕ)) × (IsWithin 0 0 x.0 × (IsWithin 0 greatest_txid x.1.0 × AllBytes x.1.1)) × (Append x.0 x.1.0 x.1.1 ≡ s)
     from (Append c t p) w = ((c, (t, p)), w.0, refl)
     from _ w = absurd (let e = w.1 in cc)
 

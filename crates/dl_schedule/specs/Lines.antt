@@ -1,5 +1,6 @@
 -- The lines of a schedule: the one spelling of each step, and which steps the lines of an early schedule may say.
 use Rattle.std.specs.Prelude.{◌≡◌, ℕ, Option, Some, None, List, [], ◌∷◌, ◌++◌, codes, ◌==◌, if◌then◌else◌}
+pub use Rattle.dl_text.specs.Ends.{space, line_feed}
 use Rattle.dl_text.specs.Numbers.{number, IsWithin}
 use Rattle.dl_text.specs.Hex.{hex, AllBytes}
 use Rattle.dl_schedule.specs.declared.step.Step.{Step}
@@ -8,14 +9,6 @@ use Rattle.dl_schedule.specs.declared.verb.Opening.{Opening}
 use Rattle.dl_schedule.specs.declared.verb.Opening.TheVariants as opening
 use Rattle.dl_schedule.specs.declared.verb.Verb.TheVariants as verb
 use Rattle.dl_schedule.specs.Verbs.{verb_text}
-
--- the byte between words
-abbrev pub space : ℕ
-space = 32
-
--- the byte that ends a line
-abbrev pub line_feed : ℕ
-line_feed = 10
 
 -- the first word of a line with the byte that ends it
 abbrev pub first_word : Step → List ℕ
@@ -64,13 +57,17 @@ opening_at n =
     else if n == 6 then Some opening.Settle
     else None
 
+-- the greatest transaction id, which fits a signed field of 64 bits
+abbrev pub greatest_txid : ℕ
+greatest_txid = 9223372036854775807
+
 -- a step of a free line: an append or a flush of client 0, or a settle
 abbrev pub IsFree : Step → Type 0
 IsFree (Setup b e w a) = ⊥
 IsFree (Join c) = ⊥
 IsFree (Create c s) = ⊥
 IsFree (Open c s) = ⊥
-IsFree (Append c t p) = IsWithin 0 0 c × (IsWithin 0 9223372036854775807 t × AllBytes p)
+IsFree (Append c t p) = IsWithin 0 0 c × (IsWithin 0 greatest_txid t × AllBytes p)
 IsFree (Flush c) = IsWithin 0 0 c
 IsFree Settle = Unit {0}
 

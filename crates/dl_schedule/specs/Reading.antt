@@ -10,7 +10,7 @@ use Rattle.dl_schedule.specs.declared.verb.Verb.{Verb}
 use Rattle.dl_schedule.specs.declared.verb.Verb.TheVariants as verb
 use Rattle.dl_schedule.specs.declared.verb.Opening.{Opening}
 use Rattle.dl_schedule.specs.Verbs.{verb_text, verbs}
-use Rattle.dl_schedule.specs.Lines.{space, line_feed, opening_step, opening_text, opening_at}
+use Rattle.dl_schedule.specs.Lines.{space, line_feed, greatest_txid, opening_step, opening_text, opening_at}
 
 -- the client that most lines name
 abbrev pub client_at : ℕ → List ℕ → Result (ℕ × List ℕ) ℕ
@@ -18,7 +18,9 @@ client_at = number_at 0 0
 
 -- an append behind its first word
 abbrev pub append_at : List ℕ → Result (Step × List ℕ) ℕ
-append_at = map_at (λ x. Append x.0 x.1.0 x.1.1) (then_at (client_at space) (λ c. then_at (number_at 0 9223372036854775807 space) (λ t. hex_at line_feed)))
+append_at =
+    map_at (λ (client, (txid, payload)). Append client txid payload)
+    (then_at (client_at space) (λ client. then_at (number_at 0 greatest_txid space) (λ txid. hex_at line_feed)))
 
 -- a flush behind its first word
 abbrev pub flush_at : List ℕ → Result (Step × List ℕ) ℕ
@@ -36,7 +38,7 @@ rest_at verb.Settle = settle_at
 
 -- a free line
 abbrev pub free_at : List ℕ → Result (Step × List ℕ) ℕ
-free_at = map_at (λ x. x.1) (then_at (words_from verb_text 0 verbs) rest_at)
+free_at = map_at (λ (verb, step). step) (then_at (words_from verb_text 0 verbs) rest_at)
 
 -- an opening line
 abbrev pub fixed_at : Opening → List ℕ → Result (Step × List ℕ) ℕ

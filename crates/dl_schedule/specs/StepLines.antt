@@ -3,6 +3,7 @@ use Rattle.std.specs.Prelude.{ℕ, ◌≤◌, Bool, true, false, List, [], ◌�
 use Rattle.std.specs.List.{AllByRecursion}
 use Rattle.dl_types.specs.declared.address.Address.{Address}
 use Rattle.dl_types.specs.declared.address.Address.TheVariants as address
+use Rattle.dl_text.specs.Ends.{space, line_feed}
 use Rattle.dl_text.specs.Numbers.{number, IsWithin}
 use Rattle.dl_text.specs.Hex.{hex, AllBytes}
 use Rattle.dl_text.specs.NameFields.{name_field, IsName}
@@ -16,13 +17,6 @@ use Rattle.dl_schedule.specs.declared.words.FirstWord.TheVariants as word
 use Rattle.dl_schedule.specs.declared.words.StartWord.TheVariants as start
 use Rattle.dl_schedule.specs.declared.words.NodeWord.TheVariants as letter
 use Rattle.dl_schedule.specs.Words.{first_text, start_text, node_text}
-
--- the byte between words, and the byte that ends a line
-abbrev pub space : ℕ
-space = 32
-
-abbrev pub line_feed : ℕ
-line_feed = 10
 
 -- the greatest transaction id
 abbrev pub most_txid : ℕ

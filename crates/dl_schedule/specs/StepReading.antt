@@ -2,7 +2,9 @@
 use Rattle.std.specs.Prelude.{ℕ, zero, suc, Bool, ◌==◌, List, [], ◌∷◌, Result, Ok}
 use Rattle.dl_types.specs.declared.address.Address.{Address}
 use Rattle.dl_types.specs.declared.address.Address.TheVariants as address
-use Rattle.dl_text.specs.Readers.{then_at, map_at, whole_at}
+use Rattle.dl_text.specs.Ends.{space, line_feed}
+use Rattle.dl_text.specs.Readings.{then_at, map_at}
+use Rattle.dl_text.specs.Readers.{whole_at}
 use Rattle.dl_text.specs.Choices.{or_at}
 use Rattle.dl_text.specs.Columns.{column_of}
 use Rattle.dl_text.specs.Numbers.{number_at}
@@ -21,7 +23,7 @@ use Rattle.dl_schedule.specs.declared.words.StartWord.TheVariants as start
 use Rattle.dl_schedule.specs.declared.words.NodeWord.{NodeWord}
 use Rattle.dl_schedule.specs.declared.words.NodeWord.TheVariants as letter
 use Rattle.dl_schedule.specs.Words.{first_text, first_words, start_text, start_words, node_text}
-use Rattle.dl_schedule.specs.StepLines.{space, line_feed, most_txid}
+use Rattle.dl_schedule.specs.StepLines.{most_txid}
 
 -- a reader takes a field off the front of a text
 abbrev pub Reader : Type 0 → Type 0

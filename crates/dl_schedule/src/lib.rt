@@ -5,6 +5,7 @@ pub mod bookie_count;
 pub mod device_step;
 pub mod early;
 pub mod fault;
+pub mod laws;
 pub mod message_number;
 pub mod node;
 pub mod row_count;

@@ -1,27 +1,27 @@
 -- Hex digits are read exactly.
-use Rattle.std.proofs.Common.{◌≡◌, ℕ, ◌+◌, ◌*◌, ◌/◌, ◌%◌, ◌≤◌, ◌<◌, Bool, true, false, cond, eqb, List, [], ◌∷◌, ◌++◌, length, get_or, drop, Result, Ok, Err, ◌⊎◌, inl, inr, refl, sym, ap, subst, ◌∙◌, append_assoc, arith, lit<}
+use Rattle.std.proofs.Common.{◌≡◌, ℕ, ◌+◌, ◌*◌, ◌/◌, ◌%◌, ◌≤◌, ◌<◌, Bool, true, false, cond, eqb, List, [], ◌∷◌, ◌++◌, length, take, drop, replicate, ◌-◌, Result, Ok, Err, ◌⊎◌, inl, inr, refl, sym, ap, subst, ◌∙◌, append_assoc, arith, lit<}
 use Rattle.std.proofs.lemmas.Bool.Decides.{nat_tests}
-use Rattle.std.proofs.lemmas.Bool.{eqb-true, eq-eqb, ne_eqb}
-use Rattle.std.specs.List.{between}
-use Rattle.std.proofs.lemmas.List.{drop_more}
-use Rattle.std.proofs.lemmas.Slice.{first_rest}
+use Rattle.std.proofs.lemmas.Bool.{eqb-true, eq-eqb, ne_eqb, cases_eq, and_parts}
+use Rattle.std.specs.List.{list_all}
+use Rattle.std.proofs.lemmas.List.{append-nil, take-append-drop, take_all, drop_all, drop-replicate, length-replicate, length-append, length-take}
+use Rattle.std.proofs.Math.Seq.{take-append_seam, drop-append_seam}
 use Rattle.dl_text.specs.Readers.{shared, ◌>>=◌, Exact}
-use Rattle.dl_text.specs.Hex.{is_hex, hex_value, hex_char, pairs, hex, AllBytes, pairs_at, end_at, hex_at}
+use Rattle.dl_text.specs.Hex.{is_hex, hex_value, hex_char, pairs, hex, AllBytes, pairs_at, end_at, hex_at, bytes_of, begins_digit, IsDigitCount}
 use Rattle.dl_text.proofs.ReaderLemmas.{ok_is, bind_ok, bind_err, shared-cons}
 use Rattle.dl_text.proofs.NumberLemmas.{StopsEarly, far_from_stop}
 
 data HexCase (end c : ℕ) : Type 0 where
-  ends : c ≡ end → eqb c end ≡ true → HexCase end c
-  digit : eqb c end ≡ false → is_hex c ≡ true → HexCase end c
+  digit : is_hex c ≡ true → HexCase end c
+  ends : c ≡ end → is_hex c ≡ false → eqb c end ≡ true → HexCase end c
   other : eqb c end ≡ false → is_hex c ≡ false → HexCase end c
 
-hex_case_go : (end c : ℕ) (t u : Bool) → eqb c end ≡ t → is_hex c ≡ u → HexCase end c
-hex_case_go end c true u e f = ends (eqb-true c end e) e
-hex_case_go end c false true e f = digit e f
-hex_case_go end c false false e f = other e f
+hex_case_go : (end c : ℕ) (t u : Bool) → is_hex c ≡ t → eqb c end ≡ u → HexCase end c
+hex_case_go end c true u f e = digit f
+hex_case_go end c false true f e = ends (eqb-true c end e) f e
+hex_case_go end c false false f e = other e f
 
 hex_case : (end c : ℕ) → HexCase end c
-hex_case end c = hex_case_go end c (eqb c end) (is_hex c) refl refl
+hex_case end c = hex_case_go end c (is_hex c) (eqb c end) refl refl
 
 hex_round : (c : ℕ) → is_hex c ≡ true → (hex_value c < 16) × (hex_char (hex_value c) ≡ c)
 hex_round c h = (grind (arith, nat_tests), grind (arith, nat_tests))
@@ -44,22 +44,22 @@ pair_text c d bs hc hd =
     ∙ ap (λ (k : ℕ). c ∷ k ∷ pairs bs) rd.1
 
 -- what stands after a whole pair
-pub after_pair : (end c d : ℕ) (ds : List ℕ) → eqb c end ≡ false → is_hex c ≡ true → is_hex d ≡ true → pairs_at end (c ∷ d ∷ ds) ≡ (pairs_at end ds >>= λ x. Ok ((hex_value c * 16 + hex_value d) ∷ x.0, x.1))
-after_pair end c d ds e hc hd = rw (e, hc, hd) refl
+after_pair : (end c d : ℕ) (ds : List ℕ) → is_hex c ≡ true → is_hex d ≡ true → pairs_at end (c ∷ d ∷ ds) ≡ (pairs_at end ds >>= λ x. Ok ((hex_value c * 16 + hex_value d) ∷ x.0, x.1))
+after_pair end c d ds hc hd = rw (hc, hd) refl
 
-half_pair : (end c d : ℕ) (ds : List ℕ) → eqb c end ≡ false → is_hex c ≡ true → is_hex d ≡ false → pairs_at end (c ∷ d ∷ ds) ≡ Err (1 + length ds)
-half_pair end c d ds e hc hd = rw (e, hc, hd) refl
+half_pair : (end c d : ℕ) (ds : List ℕ) → is_hex c ≡ true → is_hex d ≡ false → pairs_at end (c ∷ d ∷ ds) ≡ Err (1 + length ds)
+half_pair end c d ds hc hd = rw (hc, hd) refl
 
-at_end : (end c : ℕ) (cs : List ℕ) → eqb c end ≡ true → pairs_at end (c ∷ cs) ≡ Ok ([], cs)
-at_end end c [] e = rw e refl
-at_end end c (d ∷ ds) e = rw e refl
+at_end : (end c : ℕ) (cs : List ℕ) → is_hex c ≡ false → eqb c end ≡ true → pairs_at end (c ∷ cs) ≡ Ok ([], cs)
+at_end end c [] h e = rw (h, e) refl
+at_end end c (d ∷ ds) h e = rw (h, e) refl
 
-pub no_pair : (end c : ℕ) (cs : List ℕ) → eqb c end ≡ false → is_hex c ≡ false → pairs_at end (c ∷ cs) ≡ Err (1 + length cs)
-no_pair end c [] e f = rw (e, f) refl
-no_pair end c (d ∷ ds) e f = rw (e, f) refl
+no_pair : (end c : ℕ) (cs : List ℕ) → eqb c end ≡ false → is_hex c ≡ false → pairs_at end (c ∷ cs) ≡ Err (1 + length cs)
+no_pair end c [] e h = rw (h, e) refl
+no_pair end c (d ∷ ds) e h = rw (h, e) refl
 
-one_half : (end c : ℕ) → eqb c end ≡ false → is_hex c ≡ true → pairs_at end (c ∷ []) ≡ Err 0
-one_half end c e f = rw (e, f) refl
+one_half : (end c : ℕ) → is_hex c ≡ true → pairs_at end (c ∷ []) ≡ Err 0
+one_half end c h = rw h refl
 
 hex_bool : (c : ℕ) → (is_hex c ≡ true) ⊎ (is_hex c ≡ false)
 hex_bool c = elim (is_hex c) as (λ t. (t ≡ true) ⊎ (t ≡ false)) [ true ↦ inl refl | false ↦ inr refl ]
@@ -67,41 +67,40 @@ hex_bool c = elim (is_hex c) as (λ t. (t ≡ true) ⊎ (t ≡ false)) [ true �
 pairs_found : (end : ℕ) (bytes bs rest : List ℕ) → pairs_at end bytes ≡ Ok (bs, rest) → AllBytes bs × (bytes ≡ pairs bs ++ end ∷ rest)
 pairs_found end [] bs rest e = absurd cc
 pairs_found end (c ∷ []) bs rest e = elim (hex_case end c) [
-  | ends is t ↦
-      let p : ([], []) ≡ (bs, rest) = ok_is ([], []) (bs, rest) (sym (at_end end c [] t) ∙ e) in
+  | ends is h t ↦
+      let p : ([], []) ≡ (bs, rest) = ok_is ([], []) (bs, rest) (sym (at_end end c [] h t) ∙ e) in
       let P : List ℕ × List ℕ → Type 0 = λ x. AllBytes x.0 × (c ∷ [] ≡ pairs x.0 ++ end ∷ x.1) in
       subst P p (tt, rw is refl)
-  | digit n h ↦ absurd (let clash : Err 0 ≡ Ok (bs, rest) = sym (one_half end c n h) ∙ e in cc)
+  | digit h ↦ absurd (let clash : Err 0 ≡ Ok (bs, rest) = sym (one_half end c h) ∙ e in cc)
   | other n h ↦ absurd (let clash : Err (1 + length {A = ℕ} []) ≡ Ok (bs, rest) = sym (no_pair end c [] n h) ∙ e in cc)
 ]
 pairs_found end (c ∷ d ∷ ds) bs rest e = elim (hex_case end c) [
-  | ends is t ↦
-      let p : ([], d ∷ ds) ≡ (bs, rest) = ok_is ([], d ∷ ds) (bs, rest) (sym (at_end end c (d ∷ ds) t) ∙ e) in
+  | ends is h t ↦
+      let p : ([], d ∷ ds) ≡ (bs, rest) = ok_is ([], d ∷ ds) (bs, rest) (sym (at_end end c (d ∷ ds) h t) ∙ e) in
       let P : List ℕ × List ℕ → Type 0 = λ x. AllBytes x.0 × (c ∷ d ∷ ds ≡ pairs x.0 ++ end ∷ x.1) in
       subst P p (tt, rw is refl)
-  | digit n h ↦ elim (hex_bool d) [
+  | digit h ↦ elim (hex_bool d) [
     | inl k ↦
-        let u = bind_ok (pairs_at end ds) (λ (x : List ℕ × List ℕ). Ok ((hex_value c * 16 + hex_value d) ∷ x.0, x.1)) (bs, rest) (sym (after_pair end c d ds n h k) ∙ e) in
+        let u = bind_ok (pairs_at end ds) (λ (x : List ℕ × List ℕ). Ok ((hex_value c * 16 + hex_value d) ∷ x.0, x.1)) (bs, rest) (sym (after_pair end c d ds h k) ∙ e) in
         let f = pairs_found end ds u.0.0 u.0.1 u.1 in
         let p = ok_is ((hex_value c * 16 + hex_value d) ∷ u.0.0, u.0.1) (bs, rest) u.2 in
         let P : List ℕ × List ℕ → Type 0 = λ x. AllBytes x.0 × (c ∷ d ∷ ds ≡ pairs x.0 ++ end ∷ x.1) in
         let text : c ∷ d ∷ ds ≡ pairs ((hex_value c * 16 + hex_value d) ∷ u.0.0) ++ end ∷ u.0.1 = ap (λ (t : List ℕ). c ∷ d ∷ t) f.1 ∙ ap (λ (t : List ℕ). t ++ end ∷ u.0.1) (sym (pair_text c d u.0.0 h k)) in
         subst P p (((pair_is (hex_value c) (hex_value d) (hex_round c h).0 (hex_round d k).0).2, f.0), text)
-    | inr k ↦ absurd (let clash : Err (1 + length ds) ≡ Ok (bs, rest) = sym (half_pair end c d ds n h k) ∙ e in cc)
+    | inr k ↦ absurd (let clash : Err (1 + length ds) ≡ Ok (bs, rest) = sym (half_pair end c d ds h k) ∙ e in cc)
   ]
   | other n h ↦ absurd (let clash : Err (1 + length (d ∷ ds)) ≡ Ok (bs, rest) = sym (no_pair end c (d ∷ ds) n h) ∙ e in cc)
 ]
 
 pairs_again : (end : ℕ) (bs rest : List ℕ) → end < 48 → AllBytes bs → pairs_at end (pairs bs ++ end ∷ rest) ≡ Ok (bs, rest)
-pairs_again end [] rest low all = at_end end end rest (eq-eqb end end refl)
+pairs_again end [] rest low all = at_end end end rest (grind (arith, nat_tests, low)) (eq-eqb end end refl)
 pairs_again end (b ∷ bs) rest low all =
     let h : b / 16 < 16 = omega (arith, all.0) in
     let l : b % 16 < 16 = omega arith in
     let rh = hex_back (b / 16) h in
     let rl = hex_back (b % 16) l in
-    let apart : eqb (hex_char (b / 16)) end ≡ false = let a = rh.2 in grind (arith, nat_tests, a, low) in
     let whole : hex_value (hex_char (b / 16)) * 16 + hex_value (hex_char (b % 16)) ≡ b = rw (rh.1, rl.1) (omega arith) in
-    after_pair end (hex_char (b / 16)) (hex_char (b % 16)) (pairs bs ++ end ∷ rest) apart rh.0 rl.0
+    after_pair end (hex_char (b / 16)) (hex_char (b % 16)) (pairs bs ++ end ∷ rest) rh.0 rl.0
     ∙ rw (pairs_again end bs rest low all.1) (ap (λ (k : ℕ). Ok (k ∷ bs, rest)) whole)
 
 -- bytes whose text begins with a digit
@@ -120,9 +119,9 @@ shared_pair c d ds t left e = omega (arith, e, shared-cons c (d ∷ ds) (d ∷ t
 pairs_near : (end : ℕ) (bytes : List ℕ) (left : ℕ) → pairs_at end bytes ≡ Err left → (bs : List ℕ) × AllBytes bs × (shared bytes (pairs bs ++ end ∷ []) + left ≡ length bytes)
 pairs_near end [] left e = ([], tt, let z : Err 0 ≡ Err left = e in let y : 0 ≡ left = cc in omega (arith, y))
 pairs_near end (c ∷ []) left e = elim (hex_case end c) [
-  | ends is t ↦ absurd (let clash : Ok ([], []) ≡ Err left = sym (at_end end c [] t) ∙ e in cc)
-  | digit n h ↦
-      let size : Err 0 ≡ Err left = sym (one_half end c n h) ∙ e in let zero_left : 0 ≡ left = cc in
+  | ends is h t ↦ absurd (let clash : Ok ([], []) ≡ Err left = sym (at_end end c [] h t) ∙ e in cc)
+  | digit h ↦
+      let size : Err 0 ≡ Err left = sym (one_half end c h) ∙ e in let zero_left : 0 ≡ left = cc in
       let b = half c h in
       let P : List ℕ → Type 0 = λ t. shared (c ∷ []) (t ++ end ∷ []) + left ≡ length (c ∷ []) in
       (b.0 ∷ [], (b.1, tt), subst P (sym (b.2 [])) (omega (arith, zero_left, shared-cons c [] (48 ∷ end ∷ []))))
@@ -131,9 +130,9 @@ pairs_near end (c ∷ []) left e = elim (hex_case end c) [
       ([], tt, rw n (omega (arith, l)))
 ]
 pairs_near end (c ∷ d ∷ ds) left e = elim (hex_case end c) [
-  | ends is t ↦ absurd (let clash : Ok ([], d ∷ ds) ≡ Err left = sym (at_end end c (d ∷ ds) t) ∙ e in cc)
-  | digit n h ↦ elim (hex_bool d) [
-    | inl k ↦ elim (bind_err (pairs_at end ds) (λ (x : List ℕ × List ℕ). Ok ((hex_value c * 16 + hex_value d) ∷ x.0, x.1)) left (sym (after_pair end c d ds n h k) ∙ e)) [
+  | ends is h t ↦ absurd (let clash : Ok ([], d ∷ ds) ≡ Err left = sym (at_end end c (d ∷ ds) h t) ∙ e in cc)
+  | digit h ↦ elim (hex_bool d) [
+    | inl k ↦ elim (bind_err (pairs_at end ds) (λ (x : List ℕ × List ℕ). Ok ((hex_value c * 16 + hex_value d) ∷ x.0, x.1)) left (sym (after_pair end c d ds h k) ∙ e)) [
       | inl s ↦
           let w = pairs_near end ds left s in
           let P : List ℕ → Type 0 = λ t. shared (c ∷ d ∷ ds) (t ++ end ∷ []) + left ≡ length (c ∷ d ∷ ds) in
@@ -141,7 +140,7 @@ pairs_near end (c ∷ d ∷ ds) left e = elim (hex_case end c) [
       | inr z ↦ absurd (let clash : Ok ((hex_value c * 16 + hex_value d) ∷ z.0.0, z.0.1) ≡ Err left = z.2 in cc)
     ]
     | inr k ↦
-        let size : Err (1 + length ds) ≡ Err left = sym (half_pair end c d ds n h k) ∙ e in
+        let size : Err (1 + length ds) ≡ Err left = sym (half_pair end c d ds h k) ∙ e in
         let b = half c h in
         let size' : 1 + length ds ≡ left = cc in
         let P : List ℕ → Type 0 = λ t. shared (c ∷ d ∷ ds) (t ++ end ∷ []) + left ≡ length (c ∷ d ∷ ds) in
@@ -155,25 +154,25 @@ pairs_near end (c ∷ d ∷ ds) left e = elim (hex_case end c) [
 pairs_early : (end : ℕ) (bytes : List ℕ) (left : ℕ) → pairs_at end bytes ≡ Err left → (left ≡ 0) ⊎ StopsEarly (pairs_at end) bytes left
 pairs_early end [] left e = inl (let z : Err 0 ≡ Err left = e in cc)
 pairs_early end (c ∷ []) left e = elim (hex_case end c) [
-  | ends is t ↦ absurd (let clash : Ok ([], []) ≡ Err left = sym (at_end end c [] t) ∙ e in cc)
-  | digit n h ↦ inl (let size : Err 0 ≡ Err left = sym (one_half end c n h) ∙ e in cc)
+  | ends is h t ↦ absurd (let clash : Ok ([], []) ≡ Err left = sym (at_end end c [] h t) ∙ e in cc)
+  | digit h ↦ inl (let size : Err 0 ≡ Err left = sym (one_half end c h) ∙ e in cc)
   | other n h ↦
       let size : Err (1 + length {A = ℕ} []) ≡ Err left = sym (no_pair end c [] n h) ∙ e in
       inr (record { front = []; byte = c; rest = []; parts = refl; size = cc; always = λ more. (1 + length more, no_pair end c more n h) })
 ]
 pairs_early end (c ∷ d ∷ ds) left e = elim (hex_case end c) [
-  | ends is t ↦ absurd (let clash : Ok ([], d ∷ ds) ≡ Err left = sym (at_end end c (d ∷ ds) t) ∙ e in cc)
-  | digit n h ↦ elim (hex_bool d) [
-    | inl k ↦ elim (bind_err (pairs_at end ds) (λ (x : List ℕ × List ℕ). Ok ((hex_value c * 16 + hex_value d) ∷ x.0, x.1)) left (sym (after_pair end c d ds n h k) ∙ e)) [
+  | ends is h t ↦ absurd (let clash : Ok ([], d ∷ ds) ≡ Err left = sym (at_end end c (d ∷ ds) h t) ∙ e in cc)
+  | digit h ↦ elim (hex_bool d) [
+    | inl k ↦ elim (bind_err (pairs_at end ds) (λ (x : List ℕ × List ℕ). Ok ((hex_value c * 16 + hex_value d) ∷ x.0, x.1)) left (sym (after_pair end c d ds h k) ∙ e)) [
       | inl s ↦ elim (pairs_early end ds left s) [
         | inl z ↦ inl z
-        | inr w ↦ inr (record { front = c ∷ d ∷ w.front; byte = w.byte; rest = w.rest; parts = ap (λ (t : List ℕ). c ∷ d ∷ t) w.parts; size = w.size; always = λ more. let a = w.always more in (a.0, after_pair end c d (w.front ++ w.byte ∷ more) n h k ∙ rw a.1 refl) })
+        | inr w ↦ inr (record { front = c ∷ d ∷ w.front; byte = w.byte; rest = w.rest; parts = ap (λ (t : List ℕ). c ∷ d ∷ t) w.parts; size = w.size; always = λ more. let a = w.always more in (a.0, after_pair end c d (w.front ++ w.byte ∷ more) h k ∙ rw a.1 refl) })
       ]
       | inr z ↦ absurd (let clash : Ok ((hex_value c * 16 + hex_value d) ∷ z.0.0, z.0.1) ≡ Err left = z.2 in cc)
     ]
     | inr k ↦
-        let size : Err (1 + length ds) ≡ Err left = sym (half_pair end c d ds n h k) ∙ e in
-        inr (record { front = c ∷ []; byte = d; rest = ds; parts = refl; size = cc; always = λ more. (1 + length more, half_pair end c d more n h k) })
+        let size : Err (1 + length ds) ≡ Err left = sym (half_pair end c d ds h k) ∙ e in
+        inr (record { front = c ∷ []; byte = d; rest = ds; parts = refl; size = cc; always = λ more. (1 + length more, half_pair end c d more h k) })
   ]
   | other n h ↦
       let size : Err (1 + length (d ∷ ds)) ≡ Err left = sym (no_pair end c (d ∷ ds) n h) ∙ e in
@@ -256,14 +255,14 @@ hex_again end (b ∷ bs) rest low all =
     ]
 
 -- a digit is never the byte that stops
-pairs_left : (end c : ℕ) (cs : List ℕ) (left : ℕ) → eqb c end ≡ false → is_hex c ≡ true → pairs_at end (c ∷ cs) ≡ Err left → left ≤ length cs
-pairs_left end c [] left apart h e = let size : Err 0 ≡ Err left = sym (one_half end c apart h) ∙ e in let z : 0 ≡ left = cc in omega (arith, z)
-pairs_left end c (d ∷ ds) left apart h e = elim (hex_bool d) [
-  | inl k ↦ elim (bind_err (pairs_at end ds) (λ (x : List ℕ × List ℕ). Ok ((hex_value c * 16 + hex_value d) ∷ x.0, x.1)) left (sym (after_pair end c d ds apart h k) ∙ e)) [
+pairs_left : (end c : ℕ) (cs : List ℕ) (left : ℕ) → is_hex c ≡ true → pairs_at end (c ∷ cs) ≡ Err left → left ≤ length cs
+pairs_left end c [] left h e = let size : Err 0 ≡ Err left = sym (one_half end c h) ∙ e in let z : 0 ≡ left = cc in omega (arith, z)
+pairs_left end c (d ∷ ds) left h e = elim (hex_bool d) [
+  | inl k ↦ elim (bind_err (pairs_at end ds) (λ (x : List ℕ × List ℕ). Ok ((hex_value c * 16 + hex_value d) ∷ x.0, x.1)) left (sym (after_pair end c d ds h k) ∙ e)) [
     | inl s ↦ let w = pairs_near end ds left s in omega (arith, w.2)
     | inr z ↦ absurd (let clash : Ok ((hex_value c * 16 + hex_value d) ∷ z.0.0, z.0.1) ≡ Err left = z.2 in cc)
   ]
-  | inr k ↦ let size : Err (1 + length ds) ≡ Err left = sym (half_pair end c d ds apart h k) ∙ e in let z : 1 + length ds ≡ left = cc in omega (arith, z)
+  | inr k ↦ let size : Err (1 + length ds) ≡ Err left = sym (half_pair end c d ds h k) ∙ e in let z : 1 + length ds ≡ left = cc in omega (arith, z)
 ]
 
 -- from a digit on some bytes are near, and not none
@@ -271,7 +270,7 @@ hex_near_go : (end c left : ℕ) (cs bs : List ℕ) → end < 45 → is_hex c �
 hex_near_go end c left cs (b ∷ bs) low h e all near = (b ∷ bs, all, near)
 hex_near_go end c left cs [] low h e all near =
     let apart : eqb c end ≡ false = grind (arith, nat_tests, h, low) in
-    absurd (let z : shared (c ∷ cs) (end ∷ []) ≡ 0 = rw apart refl in omega (arith, near, z, pairs_left end c cs left apart h e))
+    absurd (let z : shared (c ∷ cs) (end ∷ []) ≡ 0 = rw apart refl in omega (arith, near, z, pairs_left end c cs left h e))
 
 hex_near : (end : ℕ) → end < 45 → (bytes : List ℕ) (left : ℕ) → hex_at end bytes ≡ Err left → (bs : List ℕ) × AllBytes bs × (shared bytes (hex end bs) + left ≡ length bytes)
 hex_near end low [] left e = ([], tt, let z : Err 0 ≡ Err left = e in let y : 0 ≡ left = cc in omega (arith, y))
@@ -326,52 +325,114 @@ hex_exact end low = record {
   far = λ bytes left e. far_from_stop AllBytes (hex end) (hex_at end) (λ bs rest all. hex_again end bs rest low all) bytes left (hex_early end bytes left e);
 }
 
--- for a loop that collects the bytes
+-- digits that were counted
 
-abbrev pub with_front : List ℕ → Result (List ℕ × List ℕ) ℕ → Result (List ℕ × List ℕ) ℕ
-with_front front read = read >>= λ x. Ok (front ++ x.0, x.1)
+-- a reading of bytes with these in front
+abbrev onto : List ℕ → Result (List ℕ × List ℕ) ℕ → Result (List ℕ × List ℕ) ℕ
+onto front read = read >>= λ x. Ok (front ++ x.0, x.1)
 
-front_step : (items : List ℕ) (b : ℕ) (r all : Result (List ℕ × List ℕ) ℕ) → with_front items (r >>= λ x. Ok (b ∷ x.0, x.1)) ≡ all → with_front (items ++ b ∷ []) r ≡ all
-front_step items b (Ok x) all e = ap (λ (l : List ℕ). Ok (l, x.1)) (append_assoc items (b ∷ []) x.0) ∙ e
-front_step items b (Err n) all e = e
+-- after whole pairs of digits the text goes on
+digits_even : (end : ℕ) (digits rest : List ℕ) → length digits % 2 ≡ 0 → list_all is_hex digits ≡ true → pairs_at end (digits ++ rest) ≡ onto (bytes_of digits) (pairs_at end rest)
+digits_even end [] rest even all = same (pairs_at end rest)
+  where
+    same : (r : Result (List ℕ × List ℕ) ℕ) → r ≡ onto [] r
+    same (Ok x) = refl
+    same (Err n) = refl
+digits_even end (c ∷ []) rest even all = absurd (omega arith)
+digits_even end (c ∷ d ∷ ds) rest even all =
+    let h = and_parts (is_hex c) (list_all is_hex (d ∷ ds)) all in
+    let k = and_parts (is_hex d) (list_all is_hex ds) h.1 in
+    let b = hex_value c * 16 + hex_value d in
+    after_pair end c d (ds ++ rest) h.0 k.0
+    ∙ ap (onto (b ∷ [])) (digits_even end ds rest (omega arith) k.1)
+    ∙ both b (bytes_of ds) (pairs_at end rest)
+  where
+    both : (b : ℕ) (bs : List ℕ) (r : Result (List ℕ × List ℕ) ℕ) → onto (b ∷ []) (onto bs r) ≡ onto (b ∷ bs) r
+    both b bs (Ok x) = refl
+    both b bs (Err n) = refl
 
--- one turn of the loop
-pub pairs_step : (end h l : ℕ) (rest items after : List ℕ) (all : Result (List ℕ × List ℕ) ℕ) → 1 ≤ length rest → (get_or rest 0 0 ≡ end → ⊥) → (is_hex (get_or rest 0 0) ≡ true) × (h ≡ hex_value (get_or rest 0 0)) × (h < 16) → 1 ≤ length (between 1 (length rest) rest) → (is_hex (get_or (between 1 (length rest) rest) 0 0) ≡ true) × (l ≡ hex_value (get_or (between 1 (length rest) rest) 0 0)) × (l < 16) → after ≡ items ++ (h * 16 + l) ∷ [] → with_front items (pairs_at end rest) ≡ all → with_front after (pairs_at end (between 1 (length (between 1 (length rest) rest)) (between 1 (length rest) rest))) ≡ all
-pairs_step end h l rest items after all some ne high more low pushed same =
-    let c = get_or rest 0 0 in
-    let tail = between 1 (length rest) rest in
-    let d = get_or tail 0 0 in
-    let rest' = between 1 (length tail) tail in
-    let one : rest ≡ c ∷ tail = first_rest rest 0 some in
-    let two : tail ≡ d ∷ rest' = first_rest tail 0 more in
-    let whole : rest ≡ c ∷ d ∷ rest' = one ∙ ap (λ (t : List ℕ). c ∷ t) two in
-    let step = after_pair end c d rest' (ne_eqb c end ne) high.0 low.0 in
-    let read : pairs_at end rest ≡ (pairs_at end rest' >>= λ x. Ok ((hex_value c * 16 + hex_value d) ∷ x.0, x.1)) = ap (pairs_at end) whole ∙ step in
-    let value : hex_value c * 16 + hex_value d ≡ h * 16 + l = rw (high.1, low.1) refl in
-    ap (λ (t : List ℕ). with_front t (pairs_at end rest')) (pushed ∙ ap (λ (k : ℕ). items ++ k ∷ []) (sym value)) ∙ front_step items (hex_value c * 16 + hex_value d) (pairs_at end rest') all (ap (with_front items) (sym read) ∙ same)
+-- after half a pair it stops
+digits_odd : (end : ℕ) (digits rest : List ℕ) → length digits % 2 ≡ 1 → list_all is_hex digits ≡ true → begins_digit rest ≡ false → pairs_at end (digits ++ rest) ≡ Err (length rest)
+digits_odd end [] rest odd all none = absurd (omega arith)
+digits_odd end (c ∷ []) [] odd all none = one_half end c (and_parts (is_hex c) true all).0
+digits_odd end (c ∷ []) (r ∷ rest) odd all none = half_pair end c r rest (and_parts (is_hex c) true all).0 none ∙ ap Err (omega arith)
+digits_odd end (c ∷ d ∷ ds) rest odd all none =
+    let h = and_parts (is_hex c) (list_all is_hex (d ∷ ds)) all in
+    let k = and_parts (is_hex d) (list_all is_hex ds) h.1 in
+    after_pair end c d (ds ++ rest) h.0 k.0 ∙ rw (digits_odd end ds rest (omega arith) k.1 none) refl
 
--- nothing, and the byte that ends it
-abbrev pub IsNothing : List ℕ → Type 0
-IsNothing bs = bs ≡ []
+-- where no digit stands, there is the end, or nothing goes on
+end_is : (end : ℕ) (rest : List ℕ) (c : ℕ) (after : List ℕ) → rest ≡ c ∷ after → begins_digit rest ≡ false → c ≡ end → pairs_at end rest ≡ Ok ([], after)
+end_is end rest c after parts none is =
+    let h : is_hex c ≡ false = ap begins_digit (sym parts) ∙ none in
+    ap (pairs_at end) parts ∙ at_end end c after h (eq-eqb c end is)
 
-end_exact_again : (end : ℕ) (bs rest : List ℕ) → IsNothing bs → end_at end ((bs ++ end ∷ []) ++ rest) ≡ Ok (bs, rest)
-end_exact_again end bs rest v = rw v (end_again end rest)
+other_is : (end : ℕ) (rest : List ℕ) (c : ℕ) (after : List ℕ) → rest ≡ c ∷ after → begins_digit rest ≡ false → (c ≡ end → ⊥) → pairs_at end rest ≡ Err (length rest)
+other_is end rest c after parts none apart =
+    let h : is_hex c ≡ false = ap begins_digit (sym parts) ∙ none in
+    ap (pairs_at end) parts ∙ no_pair end c after (ne_eqb c end apart) h ∙ ap Err (omega (arith, ap length parts))
 
-pub end_exact : (end : ℕ) → Exact IsNothing (λ bs. bs ++ end ∷ []) (end_at end)
-end_exact end = record {
-  found = λ bytes bs rest e. let f = end_found end bytes bs rest e in (sym f.0, f.1 ∙ ap (λ (t : List ℕ). (t ++ end ∷ []) ++ rest) f.0);
-  again = end_exact_again end;
-  near = λ bytes left e. ([], refl, end_near end bytes left e);
-  far = λ bytes left e. far_from_stop IsNothing (λ bs. bs ++ end ∷ []) (end_at end) (end_exact_again end) bytes left (end_early end bytes left e);
+-- the bytes are digits, and what stands behind them
+pub record Counted (bytes digits rest : List ℕ) : Type 0 where
+  pub parts : bytes ≡ digits ++ rest
+  pub all : list_all is_hex digits ≡ true
+  pub none : begins_digit rest ≡ false
+
+pub counted : (bytes digits rest : List ℕ) (count : ℕ) → IsDigitCount bytes count → digits ≡ take count bytes → rest ≡ drop count bytes → Counted bytes digits rest
+counted bytes digits rest count is front back = record {
+  parts = sym (take-append-drop count bytes) ∙ ap (λ (t : List ℕ). t ++ drop count bytes) (sym front) ∙ ap (λ (t : List ℕ). digits ++ t) (sym back);
+  all = ap (list_all is_hex) front ∙ is.all;
+  none = ap begins_digit back ∙ is.no_more;
 }
 
--- one turn of the loop that prints pairs
-pub pair_put : (items one two bytes all : List ℕ) (i high low : ℕ) → one ≡ items ++ high ∷ [] → two ≡ one ++ low ∷ [] → high ≡ hex_char (get_or bytes i 0 / 16) → low ≡ hex_char (get_or bytes i 0 % 16) → i < length bytes → items ++ pairs (drop i bytes) ≡ all → two ++ pairs (drop (i + 1) bytes) ≡ all
-pair_put items one two bytes all i high low first second h l within same =
-    let b = get_or bytes i 0 in
-    let parts : drop i bytes ≡ b ∷ drop (i + 1) bytes = drop_more bytes i 0 within in
-    let end : List ℕ = pairs (drop (i + 1) bytes) in
-    let whole : two ≡ items ++ hex_char (b / 16) ∷ hex_char (b % 16) ∷ [] =
-    second ∙ ap (λ (t : List ℕ). t ++ low ∷ []) first ∙ append_assoc items (high ∷ []) (low ∷ []) ∙ ap (λ (k : ℕ). items ++ k ∷ low ∷ []) h ∙ ap (λ (k : ℕ). items ++ hex_char (b / 16) ∷ k ∷ []) l
-    in
-    ap (λ (t : List ℕ). t ++ end) whole ∙ append_assoc items (hex_char (b / 16) ∷ hex_char (b % 16) ∷ []) end ∙ ap (λ (t : List ℕ). items ++ pairs t) (sym parts) ∙ same
+-- pairs that the end follows
+pub pairs_end : (end : ℕ) (bytes digits rest : List ℕ) (c : ℕ) (after out : List ℕ) → Counted bytes digits rest → rest ≡ c ∷ after → c ≡ end → length digits % 2 ≡ 0 → out ≡ bytes_of digits → pairs_at end bytes ≡ Ok (out, after)
+pairs_end end bytes digits rest c after out k parts is even spelt =
+    ap (pairs_at end) k.parts ∙ digits_even end digits rest even k.all
+    ∙ ap (onto (bytes_of digits)) (end_is end rest c after parts k.none is)
+    ∙ ap (λ (t : List ℕ). Ok (t, after)) (append-nil (bytes_of digits) ∙ sym spelt)
+
+-- digits that another byte follows, or half a pair
+pub pairs_stop : (end : ℕ) (bytes digits rest : List ℕ) (c : ℕ) (after : List ℕ) → Counted bytes digits rest → rest ≡ c ∷ after → (c ≡ end → length digits % 2 ≡ 0 → ⊥) → pairs_at end bytes ≡ Err (length rest)
+pairs_stop end bytes digits rest c after k parts bad = elim (cases_eq (length digits % 2) 0) [
+  | inl even ↦
+      ap (pairs_at end) k.parts ∙ digits_even end digits rest even k.all
+      ∙ ap (onto (bytes_of digits)) (other_is end rest c after parts k.none (λ is. bad is even))
+  | inr odd ↦ ap (pairs_at end) k.parts ∙ digits_odd end digits rest (omega arith) k.all k.none
+]
+
+-- digits behind which the text ends
+pub pairs_cut : (end : ℕ) (bytes digits rest : List ℕ) → Counted bytes digits rest → rest ≡ [] → pairs_at end bytes ≡ Err 0
+pairs_cut end bytes digits rest k none =
+    ap (pairs_at end) (k.parts ∙ ap (λ (t : List ℕ). digits ++ t) none) ∙ elim (cases_eq (length digits % 2) 0) [
+      | inl even ↦ digits_even end digits [] even k.all
+      | inr odd ↦ digits_odd end digits [] (omega arith) k.all refl
+    ]
+
+-- pairs written over the end of a longer text
+pub written_over : (old shown items new : List ℕ) (start count whole len end : ℕ) → shown ≡ items → items ≡ take whole old ++ replicate (whole - start) end → length items ≡ whole → start + (count + 1) ≡ whole → length new ≡ count → len ≡ whole
+    → take len (take start shown ++ (new ++ drop count (drop start shown)) ++ drop (length (take start shown ++ (new ++ drop count (drop start shown)))) items) ≡ old ++ (new ++ end ∷ [])
+written_over old shown items new start count whole len end told grown size room fits all =
+    let parts : length items ≡ length (take whole old) + (whole - start) = ap length grown ∙ length-append (take whole old) (replicate (whole - start) end) ∙ ap (λ (n : ℕ). length (take whole old) + n) (length-replicate (whole - start) end) in
+    let old_size : length old ≡ start = omega (arith, parts, size, room, length-take whole old) in
+    let over : whole - start ≡ count + 1 = omega (arith, room) in
+    let is : shown ≡ old ++ replicate (count + 1) end =
+    told ∙ grown ∙ ap (λ (t : List ℕ). t ++ replicate (whole - start) end) (take_all whole old (omega (arith, old_size, room))) ∙ ap (λ (n : ℕ). old ++ replicate n end) over in
+    let front : take start shown ≡ old = ap (λ (n : ℕ). take n shown) (sym old_size) ∙ ap (take (length old)) is ∙ take-append_seam old (replicate (count + 1) end) in
+    let back : drop start shown ≡ replicate (count + 1) end = ap (λ (n : ℕ). drop n shown) (sym old_size) ∙ ap (drop (length old)) is ∙ drop-append_seam old (replicate (count + 1) end) in
+    let one : count + 1 - count ≡ 1 = omega arith in
+    let last : drop count (drop start shown) ≡ end ∷ [] = ap (drop count) back ∙ drop-replicate count (count + 1) end ∙ ap (λ (n : ℕ). replicate n end) one in
+    let text : take start shown ++ (new ++ drop count (drop start shown)) ≡ old ++ (new ++ end ∷ []) = ap (λ (t : List ℕ). t ++ (new ++ drop count (drop start shown))) front ∙ ap (λ (t : List ℕ). old ++ (new ++ t)) last in
+    let long : length (old ++ (new ++ end ∷ [])) ≡ whole = length-append old (new ++ end ∷ []) ∙ omega (arith, length-append new (end ∷ []), old_size, fits, room) in
+    ap (λ (t : List ℕ). take len (t ++ drop (length t) items)) text
+    ∙ ap (λ (t : List ℕ). take len ((old ++ (new ++ end ∷ [])) ++ t)) (drop_all (length (old ++ (new ++ end ∷ []))) items (omega (arith, long, size)))
+    ∙ ap (take len) (append-nil (old ++ (new ++ end ∷ []))) ∙ take_all len (old ++ (new ++ end ∷ [])) (omega (arith, long, all))
+
+-- two digits a byte
+pub pairs_long : (bytes : List ℕ) → length (pairs bytes) ≡ 2 * length bytes
+pairs_long [] = refl
+pairs_long (b ∷ bs) = omega (arith, pairs_long bs)
+
+pub hex_some : (end : ℕ) (bytes : List ℕ) → 1 ≤ length bytes → hex end bytes ≡ pairs bytes ++ end ∷ []
+hex_some end [] some = absurd (omega arith)
+hex_some end (b ∷ bs) some = refl

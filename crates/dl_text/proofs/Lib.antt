@@ -3,3 +3,4 @@ pub mod NumberLemmas
 pub mod HexLemmas
 pub mod WordLemmas
 pub mod LineLemmas
+pub mod TextLineLemmas

@@ -1,10 +1,10 @@
 -- Numbers are read exactly.
-use Rattle.std.proofs.Common.{◌≡◌, ◌≢◌, ℕ, suc, zero, ◌+◌, ◌-◌, ◌*◌, ◌/◌, ◌%◌, ◌^◌, ◌≤◌, ◌<◌, Bool, true, false, eqb, leb, not, ◌&&◌, List, [], ◌∷◌, ◌++◌, length, get_or, Result, Ok, Err, ◌⊎◌, inl, inr, refl, sym, ap, subst, ◌∙◌, append_assoc, arith, length-append}
+use Rattle.std.proofs.Common.{◌≡◌, ◌≢◌, ℕ, suc, zero, ◌+◌, ◌-◌, ◌*◌, ◌/◌, ◌%◌, ◌^◌, ◌≤◌, ◌<◌, Bool, true, false, eqb, leb, not, ◌&&◌, List, [], ◌∷◌, ◌++◌, length, get_or, Result, Ok, Err, ◌⊎◌, inl, inr, refl, sym, ap, subst, ◌∙◌, append_assoc, arith, length-append, lit<}
 use Rattle.std.specs.Fmt.{decimal}
 use Rattle.std.specs.Char.{digit_value}
 use Rattle.std.specs.Str.Parse.{AllDigits, digits_value, digits_value_after}
 use Rattle.std.proofs.lemmas.Str.Parse.{digit_from_value}
-use Rattle.std.proofs.lemmas.Fmt.{decimal_digit, decimal_step, first_decimal, decimal_is_IsNumeral}
+use Rattle.std.proofs.lemmas.Fmt.{decimal_digit, decimal_step, first_decimal, decimal_is_IsNumeral, length-decimal-le}
 use Rattle.std.proofs.lemmas.Bool.Decides.{nat_tests}
 use Rattle.std.proofs.lemmas.Bool.{eqb-true, eqb-false, eq-eqb, leb-true, cases_lt, and_parts}
 use Rattle.std.proofs.lemmas.List.{append-nil}
@@ -254,3 +254,11 @@ number_exact low high end range = record {
 pub digits_within : {B : Type 0} (now : B → List ℕ) (r : Result (ℕ × B) Stop) (low high end v : ℕ) (bytes : List ℕ) → high < 2 ^ 64 → low ≤ v → v ≤ high → Gives (λ x. (x.0, now x.1)) r (digits_at high end v bytes) → IfOk r (λ x. IsWithin low high x.0)
 digits_within now (Ok x) low high end v bytes big from below given = let f = digits_found high end v bytes x.0 (now x.1) big below given in (omega (arith, f.0, from), f.1)
 digits_within now (Err e) low high end v bytes big from below given = tt
+
+-- a u64 has at most 20 digits
+pub digits_few : (n : ℕ) → n < 2 ^ 64 → length (decimal n) ≤ 20
+digits_few n small = length-decimal-le 20 n (lit< tt) (omega arith) small
+
+-- the field of a number of one digit
+pub short_field : (n end : ℕ) → n < 10 → (48 + n) ∷ end ∷ [] ≡ number end n
+short_field n end h = ap (λ (t : List ℕ). t ++ end ∷ []) (sym (decimal_digit n h))

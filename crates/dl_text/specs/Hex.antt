@@ -1,5 +1,6 @@
 -- Bytes of lines: `-` for none, else pairs of lower-case hex digits, with the byte that ends them.
-use Rattle.std.specs.Prelude.{ℕ, ◌+◌, ◌*◌, ◌-◌, ◌/◌, ◌%◌, ◌<◌, Bool, ◌&&◌, ◌||◌, List, [], ◌∷◌, ◌++◌, length, Result, Ok, Err, nat_le, ◌==◌, if◌then◌else◌}
+use Rattle.std.specs.Prelude.{◌≡◌, ℕ, ◌+◌, ◌*◌, ◌-◌, ◌/◌, ◌%◌, ◌<◌, ◌≤◌, Bool, true, false, ◌&&◌, ◌||◌, List, [], ◌∷◌, ◌++◌, length, take, drop, Result, Ok, Err, nat_le, ◌==◌, if◌then◌else◌}
+use Rattle.std.specs.List.{list_all}
 use Rattle.dl_text.specs.Readers.{◌>>=◌}
 
 -- a byte is one of 0 to 9 and a to f
@@ -32,9 +33,10 @@ AllBytes (b ∷ bs) = (b < 256) × AllBytes bs
 -- any number of pairs of hex digits, and the byte that ends them
 abbrev pub pairs_at : (end : ℕ) → List ℕ → Result (List ℕ × List ℕ) ℕ
 pairs_at end [] = Err 0
-pairs_at end (c ∷ []) = if c == end then Ok ([], []) else if is_hex c then Err 0 else Err 1
-pairs_at end (c ∷ d ∷ ds) = if c == end then Ok ([], d ∷ ds)
-    else if is_hex c then (if is_hex d then (pairs_at end ds >>= λ x. Ok ((hex_value c * 16 + hex_value d) ∷ x.0, x.1)) else Err (1 + length ds))
+pairs_at end (c ∷ []) = if is_hex c then Err 0 else if c == end then Ok ([], []) else Err 1
+pairs_at end (c ∷ d ∷ ds) =
+    if is_hex c then (if is_hex d then (pairs_at end ds >>= λ x. Ok ((hex_value c * 16 + hex_value d) ∷ x.0, x.1)) else Err (1 + length ds))
+    else if c == end then Ok ([], d ∷ ds)
     else Err (1 + length (d ∷ ds))
 
 -- no bytes, and the byte that ends them
@@ -46,3 +48,20 @@ end_at end (d ∷ ds) = if d == end then Ok ([], ds) else Err (1 + length ds)
 abbrev pub hex_at : (end : ℕ) → List ℕ → Result (List ℕ × List ℕ) ℕ
 hex_at end [] = Err 0
 hex_at end (c ∷ cs) = if c == 45 then end_at end cs else if is_hex c then pairs_at end (c ∷ cs) else Err (1 + length cs)
+
+-- the bytes that pairs of hex digits spell
+abbrev pub bytes_of : List ℕ → List ℕ
+bytes_of [] = []
+bytes_of (c ∷ []) = []
+bytes_of (c ∷ d ∷ ds) = (hex_value c * 16 + hex_value d) ∷ bytes_of ds
+
+-- a hex digit stands at the front
+abbrev pub begins_digit : List ℕ → Bool
+begins_digit [] = false
+begins_digit (c ∷ cs) = is_hex c
+
+-- so many hex digits stand at the front of the bytes, and no more
+pub record IsDigitCount (bytes : List ℕ) (count : ℕ) : Type 0 where
+  pub within : count ≤ length bytes
+  pub all : list_all is_hex (take count bytes) ≡ true
+  pub no_more : begins_digit (drop count bytes) ≡ false

@@ -1,11 +1,12 @@
 -- The laws of the readers of this crate.
-use Rattle.std.specs.Prelude.{◌≡◌, ℕ, ◌<◌, List, ◌∷◌, ◌++◌, Ok}
+use Rattle.std.specs.Prelude.{◌≡◌, ℕ, ◌<◌, List, [], ◌∷◌, ◌++◌, Ok, false}
 use Rattle.std.specs.List.{Contains}
 use Rattle.dl_text.specs.Readers.{Exact, whole_at}
 use Rattle.dl_text.specs.Numbers.{number, number_at, IsWithin, IsRange}
 use Rattle.dl_text.specs.Hex.{hex, hex_at, AllBytes}
 use Rattle.dl_text.specs.Words.{words_from}
 use Rattle.dl_text.specs.Columns.{column_of, ReadsWhole}
+use Rattle.dl_text.specs.TextLines.{lines_of, has_feed, IsFirstLine}
 
 -- each number field is read exactly
 abbrev pub NumbersAreExact : Type 0
@@ -25,3 +26,8 @@ WordsAreExact {K} text =
 -- a text that is to be one number field is read as it is spelt, or stops at the column at which no such number goes on
 abbrev pub WholeNumbersAreRead : Type 0
 WholeNumbersAreRead = (low high end : ℕ) → IsRange low high end → (bytes : List ℕ) → ReadsWhole (IsWithin low high) (number end) bytes (column_of bytes (whole_at (number_at low high end) bytes))
+
+-- a line ends at the first line feed; bytes without one are one line
+pub record LinesEndAtFeeds : Type 0 where
+  pub first : (text line rest : List ℕ) → IsFirstLine text line rest → lines_of text ≡ line ∷ lines_of rest
+  pub last : (b : ℕ) (bytes : List ℕ) → has_feed (b ∷ bytes) ≡ false → lines_of (b ∷ bytes) ≡ (b ∷ bytes) ∷ []

@@ -1,3 +1,6 @@
+pub mod Ends
+pub mod TextLines
+pub mod Readings
 pub mod Readers
 pub mod Numbers
 pub mod Hex

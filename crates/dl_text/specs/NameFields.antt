@@ -1,7 +1,7 @@
 -- Names of streams as fields of lines, with the byte that ends them.
 use Rattle.std.specs.Prelude.{◌≡◌, ℕ, ◌+◌, ◌-◌, ◌&&◌, List, [], ◌∷◌, ◌++◌, length, None, Result, Ok, Err, nat_lt, ◌==◌, if◌then◌else◌}
 use Rattle.dl_types.specs.Names.{name_fault, is_letter, is_name_byte}
-use Rattle.dl_text.specs.Readers.{◌>>=◌}
+use Rattle.dl_text.specs.Readings.{◌>>=◌}
 
 -- the one spelling of a name, and the byte that ends it
 abbrev pub name_field : ℕ → List ℕ → List ℕ

@@ -2,12 +2,9 @@
 use Rattle.std.specs.Prelude.{ℕ, List, ◌++◌, Result}
 use Rattle.dl_types.specs.declared.dlsn.Dlsn.{Dlsn}
 use Rattle.dl_types.specs.Places.{place}
-use Rattle.dl_text.specs.Readers.{then_at, map_at}
+use Rattle.dl_text.specs.Ends.{colon}
+use Rattle.dl_text.specs.Readings.{then_at, map_at}
 use Rattle.dl_text.specs.Numbers.{number, number_at, IsWithin}
-
--- the byte between the numbers of a place
-abbrev pub colon : ℕ
-colon = 58
 
 -- the greatest numbers of 64 and of 32 bits
 abbrev pub most_u64 : ℕ

@@ -1,6 +1,7 @@
 -- Readers of fields: a reader takes one field off the front of a text, or says how many bytes are left at the first
 -- byte at which no such field goes on.
-use Rattle.std.specs.Prelude.{◌≡◌, ℕ, ◌+◌, ◌≤◌, List, [], ◌∷◌, ◌++◌, length, Result, Ok, Err, ◌==◌, if◌then◌else◌}
+use Rattle.std.specs.Prelude.{◌≡◌, ℕ, ◌+◌, ◌≤◌, List, [], ◌∷◌, ◌++◌, length, Option, Some, None, Result, Ok, Err, ◌==◌, if◌then◌else◌}
+pub use Rattle.dl_text.specs.Readings.{◌>>=◌, then_at, map_at, GivesBy}
 use Rattle.dl_text.specs.declared.stop.Stop.{Stop}
 use Rattle.dl_text.specs.declared.stop.Stop.TheVariants.{NoMemory, Left}
 
@@ -10,20 +11,6 @@ shared [] ys = 0
 shared (x ∷ xs) [] = 0
 shared (x ∷ xs) (y ∷ ys) = if x == y then 1 + shared xs ys else 0
 
--- one reading and then another; the first that stops says where
-infixl 10 ◌>>=◌
-abbrev pub ◌>>=◌ : {A B : Type 0} → Result A ℕ → (A → Result B ℕ) → Result B ℕ
-(Ok x) >>= f = f x
-(Err left) >>= f = Err left
-
--- a field and then another, which may depend on it
-abbrev pub then_at : {A B : Type 0} → (List ℕ → Result (A × List ℕ) ℕ) → (A → List ℕ → Result (B × List ℕ) ℕ) → List ℕ → Result ((A × B) × List ℕ) ℕ
-then_at first second bytes = first bytes >>= λ x. second x.0 x.1 >>= λ y. Ok ((x.0, y.0), y.1)
-
--- a field as another value
-abbrev pub map_at : {A B : Type 0} → (A → B) → (List ℕ → Result (A × List ℕ) ℕ) → List ℕ → Result (B × List ℕ) ℕ
-map_at make read bytes = read bytes >>= λ x. Ok (make x.0, x.1)
-
 -- a field behind which nothing is left
 abbrev pub ended : {A : Type 0} → A × List ℕ → Result A ℕ
 ended x = if length x.1 == 0 then Ok x.0 else Err (length x.1)
@@ -32,15 +19,14 @@ ended x = if length x.1 == 0 then Ok x.0 else Err (length x.1)
 abbrev pub whole_at : {A : Type 0} → (List ℕ → Result (A × List ℕ) ℕ) → List ℕ → Result A ℕ
 whole_at read bytes = read bytes >>= ended
 
--- a fault is where the reading stops; want of memory says nothing of it
-abbrev pub Fails : {Y : Type 0} → Stop → Result Y ℕ → Type 0
-Fails NoMemory read = Unit {0}
-Fails (Left left) read = read ≡ Err left
+-- where a reading stops; want of memory says nothing of it
+abbrev pub place_of : Stop → Option ℕ
+place_of NoMemory = None
+place_of (Left left) = Some left
 
 -- what a function returned, seen by view, is what the reading gives, unless memory ran out
 abbrev pub Gives : {X Y : Type 0} → (X → Y) → Result X Stop → Result Y ℕ → Type 0
-Gives view (Ok x) read = read ≡ Ok (view x)
-Gives view (Err stop) read = Fails stop read
+Gives = GivesBy place_of
 
 -- A reader is exact for the values that are valid and their spelling: what it reads is valid and spelt so; what is
 -- valid and spelt so is read, whatever follows; and where it stops, the spelling of some valid value shares all bytes

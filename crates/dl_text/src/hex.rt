@@ -1,53 +1,108 @@
-ghost use Rattle.std.specs.Prelude.{◌≡◌, ◌<◌, ◌≤◌, ◌+◌, ◌*◌, ◌++◌, MatchOption, OnOk, OnErr, true, false, length, vec_len, vec_capacity};
+ghost use Rattle.std.specs.Prelude.{◌≡◌, ◌<◌, ◌*◌, ◌%◌, IfOk, true, length};
+ghost use Rattle.std.specs.List.{list_all};
 ghost use Rattle.dl_text.specs.Readers.{Gives};
-ghost use Rattle.dl_text.specs.Hex.{is_hex, hex_value, hex_char, hex, hex_at, pairs, pairs_at};
+ghost use Rattle.dl_text.specs.Hex.{is_hex, hex_value, hex_char, hex, hex_at, pairs, pairs_at, bytes_of, IsDigitCount};
 ghost use Rattle.dl_text.specs.Outputs.{Puts};
 
 use crate::stop::Stop;
 use dl_types::memory::NoMemory;
+use memchr::memchr;
 use std::alloc::Global;
 
-/// The value of a lower-case hex digit.
-fn value_of(digit: u8) -> Option<u8>
-    ensures { MatchOption result (is_hex digit ≡ false) (λ d. (is_hex digit ≡ true) × (d ≡ hex_value digit) × (d < 16)) }
+/// Whether a byte is a lower-case hex digit.
+fn is_digit(byte: u8) -> bool
+    ensures { result ≡ is_hex byte }
 {
-    match digit {
-        b'0'..=b'9' => Some(digit - b'0'),
-        b'a'..=b'f' => Some(digit - b'a' + 10),
-        _ => None,
+    matches!(byte, b'0'..=b'9' | b'a'..=b'f')
+}
+
+/// The value of a hex digit.
+fn value_of(digit: u8) -> u8
+    requires { is_hex digit ≡ true }
+    ensures value { result ≡ hex_value digit }
+    ensures small { result < 16 }
+{
+    if digit <= b'9' {
+        digit - b'0'
+    } else {
+        digit - (b'a' - 10)
     }
 }
 
-/// How many pairs stand before the byte that ends them: room to take at once, and no promise.
-fn room_for(end: u8, bytes: &[u8]) -> usize {
-    bytes.iter().position(|byte| *byte == end).unwrap_or(0) / 2
+/// Whether all of the bytes are hex digits. It looks at each, so that the compiler can take many at once.
+fn are_digits(bytes: &[u8]) -> bool
+    ensures { result ≡ list_all is_hex bytes.now }
+{
+    let mut all = true;
+    for byte in bytes {
+        all = all & is_digit(*byte);
+    }
+    all
+}
+
+/// The place of the first byte that is no hex digit, or the end.
+fn first_other(bytes: &[u8]) -> usize
+    ensures { IsDigitCount bytes.now result }
+{
+    for (i, byte) in bytes.iter().enumerate() {
+        if !is_digit(*byte) {
+            return i;
+        }
+    }
+    bytes.len()
+}
+
+/// How many hex digits stand at the front of the bytes. Mostly there are digits alone up to the byte `end`, and then
+/// none is looked at by itself.
+fn digits_in(end: u8, bytes: &[u8]) -> usize
+    ensures { IsDigitCount bytes.now result }
+{
+    if let Some(at) = memchr(end, bytes) {
+        if !is_digit(end) && are_digits(&bytes[..at]) {
+            return at;
+        }
+    }
+    first_other(bytes)
+}
+
+/// Writes the bytes that pairs of hex digits spell over a slice that has room for them.
+fn read_pairs(out: &mut [u8], digits: &[u8])
+    requires size { length digits.now ≡ 2 * length out.old }
+    requires all { list_all is_hex digits.now ≡ true }
+    ensures { out.new ≡ bytes_of digits.now }
+{
+    let mut rest = digits;
+    let mut at = 0;
+    while let [high, low, more @ ..] = rest {
+        out[at] = value_of(*high) * 16 + value_of(*low);
+        at += 1;
+        rest = more;
+    }
+}
+
+/// The bytes that pairs of hex digits spell.
+fn bytes_of(alloc: Global, digits: &[u8]) -> Result<Vec<u8>, NoMemory>
+    requires even { length digits.now % 2 ≡ 0 }
+    requires all { list_all is_hex digits.now ≡ true }
+    ensures { IfOk result (λ bytes. bytes.items ≡ bytes_of digits.now) }
+{
+    let mut bytes = vec![in alloc; 0u8; digits.len() / 2]?;
+    read_pairs(bytes.as_mut_slice(), digits);
+    Ok(bytes)
 }
 
 /// Pairs of hex digits, and the byte that ends them.
 fn pairs_of(alloc: Global, end: u8, bytes: &[u8]) -> Result<(Vec<u8>, &[u8]), Stop>
     ensures { Gives (λ x. (x.0.items, x.1.now)) result (pairs_at end bytes.now) }
 {
-    let mut out = Vec::with_capacity(alloc, room_for(end, bytes))?;
-    let mut rest = bytes;
-    while let [c, after_first @ ..] = rest {
-        if *c == end {
-            return Ok((out, after_first));
-        }
-        let Some(high) = value_of(*c) else {
-            return Err(Stop::Left(rest.len()));
-        };
-        match after_first {
-            [] => return Err(Stop::Left(0)),
-            [d, after_second @ ..] => {
-                let Some(low) = value_of(*d) else {
-                    return Err(Stop::Left(after_first.len()));
-                };
-                out.push(high * 16 + low)?;
-                rest = after_second;
-            }
-        }
+    let (digits, rest) = bytes.split_at(digits_in(end, bytes));
+    let [c, after @ ..] = rest else {
+        return Err(Stop::Left(0));
+    };
+    if *c != end || digits.len() % 2 != 0 {
+        return Err(Stop::Left(rest.len()));
     }
-    Err(Stop::Left(0))
+    Ok((bytes_of(alloc, digits)?, after))
 }
 
 /// Bytes at the front of a text, as pairs of lower-case hex digits or `-` for none, and the text behind the byte `end`
@@ -66,7 +121,7 @@ pub fn hex_of(alloc: Global, end: u8, bytes: &[u8]) -> Result<(Vec<u8>, &[u8]), 
             }
         }
         [c, ..] => {
-            if value_of(*c).is_some() {
+            if is_digit(*c) {
                 pairs_of(alloc, end, bytes)
             } else {
                 Err(Stop::Left(bytes.len()))
@@ -87,16 +142,14 @@ fn digit_of(value: u8) -> u8
     }
 }
 
-/// Puts the pairs of bytes at the end of a text that has room for them.
-fn put_pairs(out: &mut Vec<u8>, bytes: &[u8])
-    requires { vec_len out.old + 2 * length bytes.now ≤ vec_capacity out.old }
-    ensures items { out.new.items ≡ out.old.items ++ pairs bytes.now }
-    ensures length { vec_len out.new ≡ vec_len out.old + 2 * length bytes.now }
-    ensures capacity { vec_capacity out.old ≤ vec_capacity out.new }
+/// Writes the pairs of bytes over a slice that has room for them.
+fn write_pairs(out: &mut [u8], bytes: &[u8])
+    requires { length out.old ≡ 2 * length bytes.now }
+    ensures { out.new ≡ pairs bytes.now }
 {
-    for byte in bytes {
-        out.push(digit_of(*byte / 16)).unwrap();
-        out.push(digit_of(*byte % 16)).unwrap();
+    for (i, byte) in bytes.iter().enumerate() {
+        out[2 * i] = digit_of(*byte / 16);
+        out[2 * i + 1] = digit_of(*byte % 16);
     }
 }
 
@@ -110,15 +163,12 @@ pub fn put_hex(out: &mut Vec<u8>, end: u8, bytes: &[u8]) -> Result<(), NoMemory>
             out.extend_from_slice(&[b'-', end])?;
         }
         [_, ..] => {
-            let Some(size) = bytes.len().checked_mul(2) else {
+            let start = out.len();
+            let Some(whole) = start.checked_add(2 * bytes.len() + 1) else {
                 return Err(NoMemory);
             };
-            let Some(size) = size.checked_add(1) else {
-                return Err(NoMemory);
-            };
-            out.reserve(size)?;
-            put_pairs(out, bytes);
-            out.push(end).unwrap();
+            out.resize(whole, end)?;
+            write_pairs(&mut out[start..whole - 1], bytes);
         }
     }
     Ok(())

@@ -1,6 +1,6 @@
 //! What holds of the readers of this crate, for each text: laws on their definitions, with no code.
 
-ghost use Rattle.dl_text.specs.Laws.{NumbersAreExact, HexIsExact, WordsAreExact, WholeNumbersAreRead};
+ghost use Rattle.dl_text.specs.Laws.{NumbersAreExact, HexIsExact, WordsAreExact, WholeNumbersAreRead, LinesEndAtFeeds};
 
 use crate::word::Word;
 
@@ -25,4 +25,9 @@ pub fn words_are_exact<W: Word>()
 /// A text that is to be one number is read as it is spelt, or stops at the exact column.
 pub fn whole_numbers_are_read()
     ensures { WholeNumbersAreRead }
+{}
+
+/// The lines of a text end at its line feeds, and what stands behind the last one is a line too.
+pub fn lines_end_at_feeds()
+    ensures { LinesEndAtFeeds }
 {}

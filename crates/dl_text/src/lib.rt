@@ -3,6 +3,7 @@
 
 pub mod hex;
 pub mod laws;
+pub mod line;
 pub mod number;
 pub mod stop;
 #[cfg(test)]

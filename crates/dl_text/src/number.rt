@@ -6,7 +6,13 @@ ghost use Rattle.dl_text.specs.Outputs.{Puts};
 
 use crate::stop::Stop;
 use dl_types::memory::NoMemory;
-use itoa::Buffer;
+use itoa::write_digits;
+
+/// The most digits of a number: those of the greatest u64.
+const DIGITS: usize = 20;
+
+/// Room for any number, and the byte that ends it.
+const FIELD: usize = DIGITS + 1;
 
 /// The value with one more digit, where it is at most `high`.
 fn push_digit(high: u64, value: u64, digit: u8) -> Option<u64>
@@ -64,15 +70,17 @@ pub fn number_of(low: u64, high: u64, end: u8, bytes: &[u8]) -> Result<(u64, &[u
     }
 }
 
-/// Puts the one spelling of a number at the end of a text, and the byte `end` behind it. No memory is taken but for
-/// the text's own growth; where that is refused, the text is as before.
+/// Puts the one spelling of a number at the end of a text, and the byte `end` behind it, in one go. No memory is taken but
+/// for the text's own growth; where that is refused, the text is as before.
 pub fn put_number(out: &mut Vec<u8>, end: u8, n: u64) -> Result<(), NoMemory>
     ensures { Puts out.old.items out.new.items (number end n) result }
 {
-    let mut buffer = Buffer::new();
-    let digits = buffer.format(n).as_bytes();
-    out.reserve(digits.len() + 1)?;
-    out.extend_from_slice(digits)?;
-    out.push(end)?;
+    if n < 10 {
+        out.extend_from_slice(&[b'0' + n as u8, end])?;
+        return Ok(());
+    }
+    let mut field = [end; FIELD];
+    let start = write_digits(n, &mut field, DIGITS);
+    out.extend_from_slice(&field[start..])?;
     Ok(())
 }

@@ -1,7 +1,10 @@
 ghost use Rattle.std.specs.Prelude.{◌≡◌, if◌then◌else◌, codes};
 
 use crate::hex::{hex_of, put_hex};
-use crate::laws::{hex_is_exact, numbers_are_exact, whole_numbers_are_read, words_are_exact};
+use crate::laws::{
+    hex_is_exact, lines_end_at_feeds, numbers_are_exact, whole_numbers_are_read, words_are_exact,
+};
+use crate::line::first_line;
 use crate::number::{number_of, put_number};
 use crate::stop::Stop;
 use crate::word::{Word, word_at};
@@ -105,4 +108,18 @@ fn words_stop_where_none_goes_on(rt: HostRuntime) -> Result<(), Fail> {
     assert_eq!(rt; Stop::from(NoMemory), Stop::NoMemory);
     words_are_exact::<Answer>();
     Ok(())
+}
+
+#[test]
+fn a_line_ends_at_its_feed(rt: HostRuntime) {
+    assert_eq!(rt;
+        first_line(b"a\n\nb"),
+        Some((b"a\n".as_slice(), b"\nb".as_slice()))
+    );
+    assert_eq!(rt;
+        first_line(b"\nb"),
+        Some((b"\n".as_slice(), b"b".as_slice()))
+    );
+    assert_eq!(rt; first_line(b"b"), None);
+    lines_end_at_feeds();
 }

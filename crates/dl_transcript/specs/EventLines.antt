@@ -7,10 +7,11 @@ use Rattle.dl_types.specs.declared.read_row.ReadRow.{ReadRow}
 use Rattle.dl_types.specs.declared.refusal.Refusal.{Refusal}
 use Rattle.dl_types.specs.declared.refusal.Refusal.TheVariants as refusal
 use Rattle.dl_fields.specs.Paths.{IsPath}
+use Rattle.dl_text.specs.Ends.{space, colon, line_feed}
 use Rattle.dl_text.specs.Numbers.{number, IsWithin}
 use Rattle.dl_text.specs.Hex.{hex, AllBytes}
 use Rattle.dl_text.specs.NameFields.{name_field, IsName}
-use Rattle.dl_text.specs.PlaceFields.{place_field, IsPlaceFrom, colon, most_u64, most_u32}
+use Rattle.dl_text.specs.PlaceFields.{place_field, IsPlaceFrom, most_u64, most_u32}
 use Rattle.dl_transcript.specs.declared.event.Event.{Event}
 use Rattle.dl_transcript.specs.declared.event.Event.TheVariants.{Joined, Expired, Created, Removed, Released, Whole, Writer, Took, Sent, Grow, Ack, Committed, Closed, Recovered, Point, Truncated, Purged, OpenedAt, OpenedFrom, Reading, End, Rows, Refused, Mail, Nothing}
 use Rattle.dl_transcript.specs.declared.words.EventWord.{EventWord}
@@ -22,15 +23,9 @@ use Rattle.dl_transcript.specs.declared.words.OpenedWord.TheVariants.{Txid}
 use Rattle.dl_transcript.specs.EventWords.{event_text, refusal_text, end_text, opened_text}
 use Rattle.dl_transcript.specs.PathFields.{path_field}
 
--- the bytes that end a field: a space, a slash inside a row, the line feed of the line
-abbrev pub space : ℕ
-space = 32
-
+-- the byte inside a row
 abbrev pub slash : ℕ
 slash = 47
-
-abbrev pub line_feed : ℕ
-line_feed = 10
 
 -- the greatest transaction id
 abbrev pub most_txid : ℕ

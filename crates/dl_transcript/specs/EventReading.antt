@@ -6,13 +6,15 @@ use Rattle.dl_types.specs.declared.dlsn.Dlsn.{Dlsn}
 use Rattle.dl_types.specs.declared.read_row.ReadRow.{ReadRow}
 use Rattle.dl_types.specs.declared.refusal.Refusal.{Refusal}
 use Rattle.dl_types.specs.declared.refusal.Refusal.TheVariants as refusal
-use Rattle.dl_text.specs.Readers.{then_at, map_at, whole_at}
+use Rattle.dl_text.specs.Ends.{space, colon, line_feed}
+use Rattle.dl_text.specs.Readings.{then_at, map_at}
+use Rattle.dl_text.specs.Readers.{whole_at}
 use Rattle.dl_text.specs.Choices.{or_at}
 use Rattle.dl_text.specs.Columns.{column_of}
 use Rattle.dl_text.specs.Numbers.{number_at}
 use Rattle.dl_text.specs.Hex.{hex_at}
 use Rattle.dl_text.specs.NameFields.{name_at}
-use Rattle.dl_text.specs.PlaceFields.{place_at, colon, most_u64, most_u32}
+use Rattle.dl_text.specs.PlaceFields.{place_at, most_u64, most_u32}
 use Rattle.dl_text.specs.Words.{words_from}
 use Rattle.dl_transcript.specs.declared.event.Event.{Event}
 use Rattle.dl_transcript.specs.declared.event.Event.TheVariants.{Joined, Expired, Created, Removed, Released, Whole, Writer, Took, Sent, Grow, Ack, Committed, Closed, Recovered, Point, Truncated, Purged, OpenedAt, OpenedFrom, Reading, End, Rows, Refused, Mail, Nothing}
@@ -24,7 +26,7 @@ use Rattle.dl_transcript.specs.declared.words.EndWord.{EndWord}
 use Rattle.dl_transcript.specs.declared.words.EndWord.TheVariants as end
 use Rattle.dl_transcript.specs.declared.words.OpenedWord.TheVariants.{Txid}
 use Rattle.dl_transcript.specs.EventWords.{event_text, event_words, refusal_text, refusal_words, end_text, opened_text}
-use Rattle.dl_transcript.specs.EventLines.{space, slash, line_feed, most_txid}
+use Rattle.dl_transcript.specs.EventLines.{slash, most_txid}
 use Rattle.dl_transcript.specs.PathFields.{path_at}
 
 -- a reader takes a field off the front of a text

@@ -1,6 +1,7 @@
 -- The one spelling of each event: the number of its line of the schedule, a space, the event, LF.
 use Rattle.std.specs.Prelude.{ℕ, List, [], ◌∷◌, ◌++◌, codes, map}
 use Rattle.std.specs.List.{flat_map}
+pub use Rattle.dl_text.specs.Ends.{space, colon, line_feed}
 use Rattle.dl_text.specs.Numbers.{number}
 use Rattle.dl_text.specs.Hex.{hex}
 use Rattle.dl_types.specs.declared.dlsn.Dlsn.{Dlsn}
@@ -11,16 +12,6 @@ use Rattle.dl_transcript.specs.declared.event.Event.TheVariants.{Joined, Created
 use Rattle.dl_transcript.specs.declared.verb.Verb.{Verb}
 use Rattle.dl_transcript.specs.declared.verb.Verb.TheVariants as verb
 use Rattle.dl_transcript.specs.Verbs.{verb_text}
-
--- the bytes that end a field: a space, a colon inside a place, the LF of the line
-abbrev pub space : ℕ
-space = 32
-
-abbrev pub colon : ℕ
-colon = 58
-
-abbrev pub line_feed : ℕ
-line_feed = 10
 
 -- a name, and the byte that ends it
 abbrev pub name : ℕ → List ℕ → List ℕ

@@ -1,7 +1,7 @@
 -- Paths as fields of lines, with the byte that ends them.
 use Rattle.std.specs.Prelude.{ℕ, ◌+◌, Bool, true, false, ◌&&◌, ◌||◌, nat_lt, ◌==◌, if◌then◌else◌, List, [], ◌∷◌, ◌++◌, length, Result, Ok, Err}
 use Rattle.dl_fields.specs.Paths.{is_part_byte}
-use Rattle.dl_text.specs.Readers.{◌>>=◌}
+use Rattle.dl_text.specs.Readings.{◌>>=◌}
 
 -- the one spelling of a path, and the byte that ends it
 abbrev pub path_field : ℕ → List ℕ → List ℕ

@@ -152,7 +152,9 @@ fn put_fields(out: &mut Vec<u8>, event: &Event) -> Result<(), NoMemory>
     }
 }
 
-fn put_event(out: &mut Vec<u8>, line: u32, event: &Event) -> Result<(), NoMemory>
+/// Puts the one spelling of an event at its line of the schedule at the end of a text: the number of the line, a space,
+/// the event, LF. Want of memory leaves the text with some front of it, and then the text is of no more use.
+pub fn put_event(out: &mut Vec<u8>, line: u32, event: &Event) -> Result<(), NoMemory>
     ensures { OnOk result (out.new.items ≡ out.old.items ++ print_event line event.now) }
 {
     put_number(out, b' ', u64::from(line))?;
@@ -160,22 +162,22 @@ fn put_event(out: &mut Vec<u8>, line: u32, event: &Event) -> Result<(), NoMemory
     put_fields(out, event)
 }
 
-/// The one spelling of an event at its line of the schedule: the number of the line, a space, the event, LF.
+/// Puts the lines of the events of one line of the schedule at the end of a text, in order. Want of memory leaves the
+/// text with some front of them, and then the text is of no more use.
+pub fn put_events(out: &mut Vec<u8>, line: u32, events: &[Event]) -> Result<(), NoMemory>
+    ensures { OnOk result (out.new.items ≡ out.old.items ++ print_all line events.now) }
+{
+    for event in events {
+        put_event(out, line, event)?;
+    }
+    Ok(())
+}
+
+/// The one spelling of an event at its line of the schedule.
 pub fn print_event(alloc: Global, line: u32, event: &Event) -> Result<Vec<u8>, NoMemory>
     ensures { IfOk result (λ text. text.items ≡ print_event line event.now) }
 {
     let mut out = Vec::new(alloc);
     put_event(&mut out, line, event)?;
-    Ok(out)
-}
-
-/// The lines of the events of one line of the schedule, in order.
-pub fn print_events(alloc: Global, line: u32, events: &[Event]) -> Result<Vec<u8>, NoMemory>
-    ensures { IfOk result (λ text. text.items ≡ print_all line events.now) }
-{
-    let mut out = Vec::new(alloc);
-    for event in events {
-        put_event(&mut out, line, event)?;
-    }
     Ok(out)
 }

@@ -8,7 +8,7 @@ use Rattle.dl_schedule.proofs.EarlyLemmas.{parsed_found}
 use Rattle.dl_transcript.specs.Legal.{Seen, nothing_seen, first_fault}
 use Rattle.dl_transcript.proofs.Runs.{fault-line}
 use Rattle.dlog.specs.declared.ended.Ended.TheVariants.{Limit}
-use Rattle.dlog.specs.Lines.{lines_of}
+use Rattle.dl_text.specs.TextLines.{lines_of}
 use Rattle.dlog.specs.Machine.{State, start, one}
 use Rattle.dlog.specs.Run.{Schedule, stops, said, schedule, schedule_from, shown_from, line_limit, schedule_limit}
 use Rattle.dlog.specs.Laws.{AreEarly, EveryEarlyRunIsLegal, EveryRunIsLegal}

@@ -1,5 +1,4 @@
 pub mod MachineLemmas
-pub mod LineLemmas
 pub mod RunLemmas
 pub mod ReplayLemmas
 pub mod Rules

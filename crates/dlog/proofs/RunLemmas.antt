@@ -10,11 +10,11 @@ use Rattle.dl_transcript.specs.declared.event.Event.{Event}
 use Rattle.dl_transcript.specs.Lines.{print_event, print_all, print_transcript, numbered}
 use Rattle.dlog.specs.declared.ended.Ended.{Ended}
 use Rattle.dlog.specs.declared.ended.Ended.TheVariants.{Done, BadLine, Limit}
-use Rattle.dlog.specs.Lines.{lines_of}
+use Rattle.dl_text.specs.TextLines.{lines_of, has_feed, IsFirstLine}
 use Rattle.dlog.specs.Machine.{one}
 use Rattle.dlog.specs.Run.{Schedule, line_limit, schedule_limit, stops, said, schedule_from, shown_from}
-use Rattle.dlog.specs.Progress.{Progress, with_front, outcome_of, behind, after_lines, ends_as, ended_with, size_of, has_feed, IsFirstLine, limit_of, IsReady, IsStop, TakesLine, Feeds}
-use Rattle.dlog.proofs.LineLemmas.{feed_both, lines_last, lines_begin, lines_split}
+use Rattle.dlog.specs.Progress.{Progress, with_front, outcome_of, behind, after_lines, ends_as, ended_with, size_of, limit_of, IsReady, IsStop, TakesLine, Feeds}
+use Rattle.dl_text.proofs.TextLineLemmas.{feed_both, lines_last, lines_begin, lines_split}
 use Rattle.dlog.proofs.MachineLemmas.{one_within}
 
 -- printing

@@ -1,7 +1,6 @@
 pub mod Machine
 pub mod Entries
 pub mod Counts
-pub mod Lines
 pub mod Run
 pub mod Progress
 pub mod Answers

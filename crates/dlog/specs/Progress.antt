@@ -1,12 +1,11 @@
 -- A run under way: the bytes of a schedule come in pieces, and whole lines are run as they come.
-use Rattle.std.specs.Prelude.{◌≡◌, ℕ, ◌+◌, ◌≤◌, Bool, false, List, [], ◌∷◌, ◌++◌, length, ◌==◌, nat_le, nat_lt, if◌then◌else◌, Option, Some, None, IfNone}
-use Rattle.std.specs.List.{list_any}
+use Rattle.std.specs.Prelude.{◌≡◌, ℕ, ◌+◌, ◌≤◌, Bool, false, List, [], ◌∷◌, ◌++◌, length, nat_le, nat_lt, if◌then◌else◌, Option, Some, None, IfNone}
 use Rattle.dl_types.specs.declared.status.LimitName.TheVariants.{Lines, Schedule as Bytes}
 use Rattle.dl_schedule.specs.declared.step.Step.{Step}
 use Rattle.dl_transcript.specs.Lines.{print_all, print_transcript}
 use Rattle.dlog.specs.declared.ended.Ended.{Ended}
 use Rattle.dlog.specs.declared.ended.Ended.TheVariants.{Done, BadLine, Limit}
-use Rattle.dlog.specs.Lines.{lines_of}
+use Rattle.dl_text.specs.TextLines.{lines_of, has_feed}
 use Rattle.dlog.specs.Machine.{State, start, one, Within}
 use Rattle.dlog.specs.Run.{Schedule, Outcome, line_limit, schedule_limit, schedule_from, shown_from}
 
@@ -55,17 +54,6 @@ behind p length step = record {
 -- how many bytes were taken
 abbrev pub size_of : Progress → ℕ
 size_of p = p.bytes + length p.pending
-
--- a line feed is among the bytes
-abbrev pub has_feed : List ℕ → Bool
-has_feed bytes = list_any (λ b. b == 10) bytes
-
--- the first line of a text, with its line feed, and what follows it
-pub record IsFirstLine (text line rest : List ℕ) : Type 0 where
-  pub init : List ℕ
-  pub plain : has_feed init ≡ false
-  pub feed : line ≡ init ++ 10 ∷ []
-  pub parts : text ≡ line ++ rest
 
 -- the limit that a line passes which stands behind so many lines and ends at so many bytes
 abbrev pub limit_of : ℕ → ℕ → Option Ended

@@ -7,7 +7,7 @@ use Rattle.dl_transcript.specs.declared.event.Event.{Event}
 use Rattle.dl_transcript.specs.Lines.{numbered, print_transcript}
 use Rattle.dlog.specs.declared.ended.Ended.{Ended}
 use Rattle.dlog.specs.declared.ended.Ended.TheVariants.{Done, BadLine, Limit}
-use Rattle.dlog.specs.Lines.{lines_of}
+use Rattle.dl_text.specs.TextLines.{lines_of}
 use Rattle.dlog.specs.Machine.{State, start, one}
 
 -- the most lines and bytes of a schedule

@@ -1,15 +1,17 @@
 ghost use Rattle.std.specs.Prelude.{◌≡◌, ◌+◌, ◌<◌, ◌≤◌, ◌++◌, [], length, OnOk, IfOk, None, false};
-ghost use Rattle.dlog.specs.Progress.{Progress, TakesLine, TakesBytes, Feeds, IsReady, begun, ends_as, ended_with, has_feed, behind, limit_of, size_of};
+ghost use Rattle.dlog.specs.Progress.{Progress, TakesLine, TakesBytes, Feeds, IsReady, begun, ends_as, ended_with, behind, limit_of, size_of};
+ghost use Rattle.dl_text.specs.TextLines.{has_feed};
 ghost use Rattle.dlog.specs.Machine.{Within};
 ghost use Rattle.dlog.specs.Run.{line_limit, schedule_limit};
 
 use crate::ended::Ended;
 use crate::machine::Machine;
-use crate::text::{first_line, read_line};
+use crate::text::read_line;
 use dl_schedule::fault::LineFault;
 use dl_schedule::step::Step;
+use dl_text::line::first_line;
 use dl_transcript::events::Events;
-use dl_transcript::print::print_events;
+use dl_transcript::print::put_events;
 use dl_types::memory::NoMemory;
 use dl_types::status::LimitName;
 use std::alloc::Global;
@@ -150,8 +152,7 @@ impl Run {
         let line = self.lines + 1;
         self.events.clear();
         self.machine.step(line, step, &mut self.events)?;
-        let shown = print_events(self.alloc, line, self.events.as_slice())?;
-        self.text.extend_from_slice(&shown)?;
+        put_events(&mut self.text, line, self.events.as_slice())?;
         self.lines = line;
         self.bytes += size;
         self.pending.clear();

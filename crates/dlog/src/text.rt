@@ -1,24 +1,11 @@
-ghost use Rattle.std.specs.Prelude.{◌≡◌, ◌++◌, IfOk, MatchOption, false};
+ghost use Rattle.std.specs.Prelude.{◌≡◌, ◌++◌, IfOk};
 ghost use Rattle.dl_schedule.specs.Faults.{Parses, parsed_early};
-ghost use Rattle.dlog.specs.Progress.{has_feed, IsFirstLine};
 
 use dl_schedule::early::parse_early;
 use dl_schedule::fault::LineFault;
 use dl_schedule::step::Step;
 use dl_types::memory::NoMemory;
 use std::alloc::Global;
-
-/// The first line of a text with its line feed, and what follows it; none where no line feed is there.
-pub fn first_line(text: &[u8]) -> Option<(&[u8], &[u8])>
-    ensures { MatchOption result (has_feed text.now ≡ false) (λ x. IsFirstLine text.now x.0.now x.1.now) }
-{
-    for (i, byte) in text.iter().enumerate() {
-        if *byte == b'\n' {
-            return Some(text.split_at(i + 1));
-        }
-    }
-    None
-}
 
 /// Two texts as one.
 fn joined(alloc: Global, front: &[u8], back: &[u8]) -> Result<Vec<u8>, NoMemory>

@@ -1,9 +1,9 @@
 -- The lines of a text whose bytes come in pieces.
-use Rattle.std.proofs.Common.{◌≡◌, ℕ, ◌+◌, ◌<◌, false, eqb, List, [], ◌∷◌, ◌++◌, length, take, drop, get_or, refl, sym, ap, ◌∙◌, append_assoc}
-use Rattle.std.proofs.lemmas.Bool.{or_parts, ne_eqb}
-use Rattle.std.proofs.lemmas.List.{take-append-drop, take_more}
-use Rattle.dlog.specs.Lines.{onto_first, lines_of}
-use Rattle.dlog.specs.Progress.{has_feed, IsFirstLine}
+use Rattle.std.proofs.Common.{◌≡◌, ℕ, zero, suc, ◌+◌, ◌<◌, ◌≤◌, false, eqb, List, [], ◌∷◌, ◌++◌, length, take, drop, get_or, Some, None, refl, sym, ap, ◌∙◌, append_assoc, arith, add-one}
+use Rattle.std.proofs.lemmas.Bool.{or_parts, ne_eqb, eq-eqb, eqb-true}
+use Rattle.std.proofs.lemmas.List.{take-append-drop, take_more, take_all}
+use Rattle.memchr.specs.Find.{IsFirstByte, Nowhere, Passes, is_byte}
+use Rattle.dl_text.specs.TextLines.{onto_first, lines_of, has_feed, IsFirstLine}
 
 feed_parts : (b : ℕ) (bytes : List ℕ) → has_feed (b ∷ bytes) ≡ false → (eqb b 10 ≡ false) × (has_feed bytes ≡ false)
 feed_parts b bytes h = or_parts (eqb b 10) (has_feed bytes) h
@@ -55,12 +55,33 @@ lines_split pending rest line after more plain first =
     regroup : (a b c d : List ℕ) → a ++ (((b ++ 10 ∷ []) ++ c) ++ d) ≡ (a ++ b) ++ 10 ∷ (c ++ d)
     regroup a b c d = ap (λ (t : List ℕ). a ++ t) (ap (λ (t : List ℕ). t ++ d) (append_assoc b (10 ∷ []) c) ∙ append_assoc b (10 ∷ c) d) ∙ sym (append_assoc a b (10 ∷ (c ++ d)))
 
--- the first line feed that a search meets
-pub first_at : (text line rest : List ℕ) (i : ℕ) → i < length text → has_feed (take i text) ≡ false → get_or text i 0 ≡ 10
-    → line ≡ take (i + 1) text → rest ≡ drop (i + 1) text → IsFirstLine text line rest
-first_at text line rest i within plain feed front back = record { init = take i text; plain = plain; feed = front ∙ take_more text i 0 within ∙ ap (λ (b : ℕ). take i text ++ b ∷ []) feed; parts = sym (take-append-drop (i + 1) text) ∙ ap (λ (t : List ℕ). t ++ drop (i + 1) text) (sym front) ∙ ap (λ (t : List ℕ). line ++ t) (sym back) }
-
 -- a search goes on past a byte that is no line feed
 pub search_on : (text : List ℕ) (i : ℕ) → i < length text → has_feed (take i text) ≡ false → (get_or text i 0 ≡ 10 → ⊥) → has_feed (take (i + 1) text) ≡ false
 search_on text i within plain other =
     ap has_feed (take_more text i 0 within) ∙ feed_both (take i text) (get_or text i 0 ∷ []) plain (rw (ne_eqb (get_or text i 0) 10 other) refl)
+
+-- no line feed stands where a search met none
+none_before : (text : List ℕ) (n : ℕ) → n ≤ length text → Nowhere (Passes (is_byte 10) text) 0 n → has_feed (take n text) ≡ false
+none_before text zero within none = refl
+none_before text (suc n) within none =
+    let more : has_feed (take (n + 1) text) ≡ false = search_on text n (omega arith) (none_before text n (omega arith) (λ k low high. none k low (omega arith))) (λ is. none n (omega arith) (omega arith) (eq-eqb (get_or text n 0) 10 is)) in
+    rw add-one at more
+
+-- a search that met no line feed
+pub no_line : (text : List ℕ) → IsFirstByte (is_byte 10) text None → has_feed text ≡ false
+no_line text none = ap has_feed (sym (take_all (length text) text (omega arith))) ∙ none_before text (length text) (omega arith) none
+
+-- a search that met a line feed first at this place has met the end of the first line
+pub first_line_at : (text line rest : List ℕ) (k : ℕ) → IsFirstByte (is_byte 10) text (Some k) → line ≡ take (k + 1) text → rest ≡ drop (k + 1) text → IsFirstLine text line rest
+first_line_at text line rest k met front back = record {
+  init = take k text;
+  plain = none_before text k (omega (arith, met.0.high)) met.0.before;
+  feed = front ∙ take_more text k 0 met.0.high ∙ ap (λ (b : ℕ). take k text ++ b ∷ []) (eqb-true (get_or text k 0) 10 met.1);
+  parts = sym (take-append-drop (k + 1) text) ∙ ap (λ (t : List ℕ). t ++ drop (k + 1) text) (sym front) ∙ ap (λ (t : List ℕ). line ++ t) (sym back);
+}
+
+-- a text is its first line and the lines of the rest
+pub first_then_rest : (text line rest : List ℕ) → IsFirstLine text line rest → lines_of text ≡ line ∷ lines_of rest
+first_then_rest text line rest first =
+    ap lines_of (first.parts ∙ ap (λ (t : List ℕ). t ++ rest) first.feed ∙ append_assoc first.init (10 ∷ []) rest)
+    ∙ lines_first first.init rest first.plain ∙ ap (λ (t : List ℕ). t ∷ lines_of rest) (sym first.feed)
