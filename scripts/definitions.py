@@ -10,10 +10,38 @@ def load(folder, name):
     return importlib.import_module(name)
 
 
+def follow_operators(antt):
+    """Has the reader of definitions find an operator's fixity also behind a `pub use`."""
+    if getattr(antt, "follows", False):
+        return
+    inner, antt.follows = antt.fixity_of, True
+
+    def declared(world, path, name):
+        for _ in range(9):
+            module = world.module(path)
+            if module is None or name.strip("◌") in module.fixity:
+                return module and module.fixity[name.strip("◌")]
+            if name not in module.names:
+                return None
+            path, name = module.names[name]
+
+    def fixity_of(module):
+        f = inner(module)
+        for shown, (path, name) in module.names.items():
+            if "◌" in shown and shown.strip("◌") not in f:
+                found = declared(module.world, path, name)
+                if found:
+                    f[shown.strip("◌")] = found
+        return f
+
+    antt.fixity_of = fixity_of
+
+
 class Definitions:
     """The definitions of a repository's crates, run by a reader of definitions: the module `antt` of a folder of tools."""
 
     def __init__(self, antt, crates):
+        follow_operators(antt)
         self.antt, self.world, self.made = antt, antt.World(crates), {}
 
     def function(self, path):

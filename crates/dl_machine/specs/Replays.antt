@@ -1,5 +1,5 @@
 -- A replay: the bytes of a schedule, and the bytes of its transcript up to the stop.
-use Rattle.std.specs.Prelude.{ℕ, suc, ◌+◌, if◌then◌else◌, ◌==◌, nat_lt, List, [], ◌∷◌, ◌++◌, length, Option, Some, None, Result, Ok, Err}
+use Rattle.std.specs.Prelude.{ℕ, suc, ◌+◌, nat_lt, List, [], ◌∷◌, ◌++◌, length, Option, Some, None, Result, Ok, Err}
 use Rattle.dl_types.specs.declared.limit.LimitName.TheVariants as limit
 use Rattle.dl_text.specs.TextLines.{lines_of}
 use Rattle.dl_schedule.specs.declared.step.Step.{Step}
