@@ -98,7 +98,7 @@ class Sides:
         self.d = Definitions(self.antt, crates)
         f = self.d.function
         self.parsed_line, self.step_line = f("dl_schedule.StepReading.parsed_line"), f("dl_schedule.StepLines.step_line")
-        self.parsed_event, self.event_line = f("dl_transcript.EventReading.parsed_event"), f("dl_transcript.EventLines.event_line")
+        self.parsed_event, self.event_line = f("dl_transcript.Reading.parsed_event"), f("dl_transcript.Lines.print_event")
         self.judged = f("dl_transcript.Judging.judged")
         self.replay = f("dl_machine.Replays.replay")
         self.limit_text = f("dl_types.Statuses.limit_text")
@@ -383,7 +383,7 @@ def faults(s, seed):
     antt, f = s.antt, s.d.function
     steps = [s.parsed_line(s.list(x))[1] for x in text.splitlines(True)]
     well, fails, falls, unmade = (s.d.world.con("Rattle.dl_machine.specs.Fates." + n) for n in ("Well", "Fails", "Falls", "Unmade"))
-    step_with, blank, event_line = f("dl_machine.Runs.step_with"), f("dl_machine.States.blank")(), s.event_line
+    step_with, blank, event_line = f("dl_machine.Runs.step_with"), f("dl_machine.States.blank"), s.event_line
     state, out, met = blank, [], 0
     for line, x in enumerate(steps, 1):
         dice = {}

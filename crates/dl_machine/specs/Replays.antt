@@ -4,7 +4,7 @@ use Rattle.dl_types.specs.declared.limit.LimitName.TheVariants as limit
 use Rattle.dl_text.specs.TextLines.{lines_of}
 use Rattle.dl_schedule.specs.declared.step.Step.{Step}
 use Rattle.dl_schedule.specs.StepReading.{parsed_line}
-use Rattle.dl_transcript.specs.EventLines.{numbered, transcript_text}
+use Rattle.dl_transcript.specs.Lines.{numbered, print_transcript}
 use Rattle.dl_machine.specs.States.{State, blank}
 use Rattle.dl_machine.specs.Limits.{Traffic, no_traffic, with_letters, new_letters, Past, past_where, first_past, past_in, most_lines, most_schedule, most_transcript}
 use Rattle.dl_machine.specs.Fates.{well}
@@ -60,7 +60,7 @@ abbrev pub run_line : Going → ℕ → Step → (Going → Replay) → Replay
 run_line g size x rest =
     let atoms = line_atoms well g.state (suc g.lines) x in
     let now = after g.state atoms in
-    let text = transcript_text (numbered (suc g.lines) (events g.state atoms)) in
+    let text = print_transcript (numbered (suc g.lines) (events g.state atoms)) in
     ran_line g size now text
       (first_past (past_in g.traffic g.state atoms) (past_where (nat_lt most_transcript (g.printed + length text)) limit.Transcript most_transcript))
       rest

@@ -5,7 +5,7 @@ use Rattle.dl_schedule.specs.declared.step.Step.{Step}
 use Rattle.dl_schedule.specs.declared.step.Step.TheVariants as step
 use Rattle.dl_transcript.specs.declared.event.Event.{Event}
 use Rattle.dl_transcript.specs.declared.event.Event.TheVariants as shows
-use Rattle.dl_transcript.specs.EventLines.{numbered}
+use Rattle.dl_transcript.specs.Lines.{numbered}
 use Rattle.dl_machine.specs.States.{State, blank, bookies_of, can_take}
 use Rattle.dl_machine.specs.Growth.{Outcome}
 use Rattle.dl_machine.specs.Atoms.{Atom, Deliver, Commit, Shows, atom}

@@ -10,7 +10,7 @@ use Rattle.dl_schedule.specs.declared.verb.Opening.TheVariants as opening
 use Rattle.dl_schedule.specs.declared.verb.Verb.TheVariants as verb
 use Rattle.dl_schedule.specs.Verbs.{verb_text}
 
--- the first word of a line with the byte that ends it
+-- the first word of a line of an early schedule, with the byte that ends it
 abbrev pub first_word : Step → List ℕ
 first_word (Setup b e w a) = codes "setup "
 first_word (Join c) = codes "join "
@@ -19,6 +19,7 @@ first_word (Open c s) = codes "open "
 first_word (Append c t p) = verb_text verb.Append
 first_word (Flush c) = verb_text verb.Flush
 first_word Settle = verb_text verb.Settle
+first_word _ = []
 
 -- a line behind its first word: numbers, names and bytes in hex, each with the byte that ends it
 abbrev pub print_rest : Step → List ℕ
@@ -29,6 +30,7 @@ print_rest (Open c s) = number space c ++ (s ++ line_feed ∷ [])
 print_rest (Append c t p) = number space c ++ (number space t ++ hex line_feed p)
 print_rest (Flush c) = number line_feed c
 print_rest Settle = []
+print_rest _ = []
 
 -- the one spelling of a step, with its line feed
 abbrev pub print_step : Step → List ℕ
@@ -70,6 +72,7 @@ IsFree (Open c s) = ⊥
 IsFree (Append c t p) = IsWithin 0 0 c × (IsWithin 0 greatest_txid t × AllBytes p)
 IsFree (Flush c) = IsWithin 0 0 c
 IsFree Settle = Unit {0}
+IsFree _ = ⊥
 
 -- the step of an opening line, or one of a free line
 abbrev pub IsSaidBy : Option Opening → Step → Type 0

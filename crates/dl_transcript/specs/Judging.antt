@@ -2,7 +2,7 @@
 use Rattle.std.specs.Prelude.{ℕ, suc, ◌&&◌, if◌then◌else◌, nat_le, List, [], ◌∷◌, Result, Ok, Err}
 use Rattle.dl_transcript.specs.declared.event.Event.{Event}
 use Rattle.dl_transcript.specs.Legality.{Seen, nothing_seen, keeps, sees}
-use Rattle.dl_transcript.specs.EventReading.{parsed_event}
+use Rattle.dl_transcript.specs.Reading.{parsed_event}
 
 -- the transcript is legal, or its line of this place, from 1, is the first that breaks a rule or is none of the grammar
 pub data Judgement : Type 0 where

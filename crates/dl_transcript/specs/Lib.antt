@@ -1,10 +1,8 @@
-pub mod Verbs
-pub mod Lines
-pub mod Legal
-pub mod Laws
-pub mod EventWords
+pub mod Words
 pub mod PathFields
-pub mod EventLines
-pub mod EventReading
+pub mod Lines
+pub mod Reading
+pub mod Legal
 pub mod Legality
 pub mod Judging
+pub mod Laws

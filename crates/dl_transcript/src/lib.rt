@@ -5,5 +5,4 @@ pub mod event;
 pub mod events;
 pub mod law;
 pub mod print;
-pub mod verb;
-mod words;
+pub mod words;

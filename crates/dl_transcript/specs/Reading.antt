@@ -25,8 +25,8 @@ use Rattle.dl_transcript.specs.declared.words.RefusalWord.TheVariants as why
 use Rattle.dl_transcript.specs.declared.words.EndWord.{EndWord}
 use Rattle.dl_transcript.specs.declared.words.EndWord.TheVariants as end
 use Rattle.dl_transcript.specs.declared.words.OpenedWord.TheVariants.{Txid}
-use Rattle.dl_transcript.specs.EventWords.{event_text, event_words, refusal_text, refusal_words, end_text, opened_text}
-use Rattle.dl_transcript.specs.EventLines.{slash, most_txid}
+use Rattle.dl_transcript.specs.Words.{event_text, event_words, refusal_text, refusal_words, end_text, opened_text}
+use Rattle.dl_transcript.specs.Lines.{slash, most_txid}
 use Rattle.dl_transcript.specs.PathFields.{path_at}
 
 -- a reader takes a field off the front of a text
