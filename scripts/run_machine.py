@@ -391,14 +391,14 @@ def faults(s, seed):
         def luck(i):
             if i not in dice:
                 y = r.random()
-                dice[i] = fails(y < 0.01) if y < 0.02 else falls.value if y < 0.03 else unmade(antt.from_list([r.randrange(3)])) if y < 0.1 else well.value
+                dice[i] = fails(y < 0.01) if y < 0.02 else falls() if y < 0.03 else unmade(antt.from_list([r.randrange(3)])) if y < 0.1 else well()
             return dice[i]
 
         now = step_with(luck, state, line, x)
         state = now[1]
         for e in antt.to_list(now[2]):
             out.append(s.bytes(event_line(line, e)))
-        met += sum(v[0] is not well for v in dice.values())
+        met += sum(v[0].name != "Well" for v in dice.values())
     s.d.world.forget()
     same("what is said of a run with failing devices", s.check.check(b"".join(out)), "legal", "seed %d" % seed)
     return {"runs with failing devices": 1, "failures": met}

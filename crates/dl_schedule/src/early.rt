@@ -17,7 +17,7 @@ use dl_types::client::ClientId;
 use dl_types::memory::NoMemory;
 use dl_types::name::Name;
 use dl_types::payload::Payload;
-use dl_types::txid::TxId;
+use dl_types::txid::{MAX_TXID, TxId};
 use std::alloc::Global;
 
 /// The number of a client: 0, the one that early schedules have.
@@ -34,7 +34,7 @@ fn append_of(alloc: Global, bytes: &[u8]) -> Result<(Step, &[u8]), Stop>
     ensures { Gives (λ x. (x.0, x.1.now)) result (append_at bytes.now) }
 {
     let (client, rest) = client_of(b' ', bytes)?;
-    let (txid, rest) = number_of(0, TxId::MAX, b' ', rest)?;
+    let (txid, rest) = number_of(0, MAX_TXID, b' ', rest)?;
     let (payload, rest) = hex_of(alloc, b'\n', rest)?;
     let payload = Payload::from_vec(payload)?;
     let client = ClientId::new(client);

@@ -1,7 +1,7 @@
 use crate::early::parse_early;
 use crate::fault::LineFault;
 use crate::step::Step;
-use dl_types::txid::TxId;
+use dl_types::txid::{MAX_TXID, TxId};
 use std::test::Fail;
 
 /// The column at which a line is refused, 0 where it is read.
@@ -149,7 +149,7 @@ fn lines_are_read(rt: HostRuntime) -> Result<(), Fail> {
             payload,
         } => {
             assert_eq!(rt; client.number(), 0);
-            assert_eq!(rt; txid.number(), TxId::MAX);
+            assert_eq!(rt; txid.number(), MAX_TXID);
             assert_eq!(rt; payload.as_slice(), [0, 255, 26].as_slice());
         }
         _ => assert!(rt; false, "another step"),
