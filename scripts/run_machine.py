@@ -213,9 +213,17 @@ def lines(s, seed):
 # ---- replays -------------------------------------------------------------------------------------------------------
 
 
+# a denial before the fence is durable doesn't count, also where a denial with the fence follows it
+ROWS = [
+    """setup 3 3 3 2;join 0;join 1;create 0 s;settle;open 0 s;settle;append 0 5 61;flush 0;recover 1 s;deliver c1 m 1;deliver m c1 1;
+    deliver c1 m 2;deliver m c1 2;deliver c1 m 3;deliver m c1 3;deliver c1 m 4;deliver m c1 4;deliver c1 b0 1;deliver c1 b1 1;sync 0;sync 1;
+    deliver b0 c1 1;deliver b1 c1 1;deliver c1 b2 2;deliver b2 c1 1;deliver c1 b0 2;deliver b0 c1 2;deliver c1 m 5;settle""",
+]
+
+
 def rows(s, seed):
-    """The worked rows of the model's own tests: their schedules are those that the tests replay."""
-    texts, real = [], s.dlog.run
+    """Rows of this script, and the worked rows of the model's own tests: their schedules are those that the tests replay."""
+    texts, real = ["".join(x.strip() + "\n" for x in row.split(";")).encode() for row in ROWS], s.dlog.run
     s.dlog.run = lambda text, *more: (texts.append(text), real(text, *more))[1]
     source = os.path.join(s.model, "test_rows.py")
     try:
