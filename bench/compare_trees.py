@@ -5,7 +5,7 @@ usage: bench/compare_trees.py MODEL [COUNT [SEED]]
 
 MODEL is a folder with machine.py, whose class Tree has apply(session, op), drop_session(session) and nodes. COUNT is the
 number of requests (6,000 where none is given), SEED the seed of the draw (1). The script makes a scratch repository with
-dl_types, dl_tree and a program that reads a request a line and prints what it gives; it proves the program, which takes
+dl_tree, the crates below it and a program that reads a request a line and prints what it gives; it proves the program, which takes
 some minutes, and runs it. It prints the first line at which the two trees differ, and then its status is 1; else how many
 requests gave what. After each hundredth request every node is looked at.
 
@@ -14,7 +14,7 @@ A plain creation of `/` is not drawn: here it answers that there is no parent, a
 import collections, os, random, shutil, subprocess, sys, tempfile
 
 TOP = os.path.dirname(os.path.dirname(os.path.abspath(__file__)))
-CRATES = ["dl_types", "dl_tree"]
+CRATES = ["dl_types", "dl_codec", "dl_fields", "dl_tree"]
 
 PROGRAM = r'''
 //! Reads a request on a tree a line, and prints what it gives.

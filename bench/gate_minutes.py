@@ -1,5 +1,5 @@
 #!/usr/bin/env python3
-"""Prints what each crate costs the gate, in processor minutes: its proof, its tests and its must-fail edits.
+"""Prints what each crate costs the gate, in processor minutes: its proof, its tests and its must-fail edits together.
 
 usage: gate_minutes.py [CRATE..]
 
