@@ -14,7 +14,7 @@ A plain creation of `/` is not drawn: here it answers that there is no parent, a
 import collections, os, random, shutil, subprocess, sys, tempfile
 
 TOP = os.path.dirname(os.path.dirname(os.path.abspath(__file__)))
-CRATES = ["dl_types", "dl_codec", "dl_fields", "dl_tree"]
+CRATES = ["dl_types", "dl_reading", "dl_codec", "dl_fields", "dl_tree"]
 
 PROGRAM = r'''
 //! Reads a request on a tree a line, and prints what it gives.

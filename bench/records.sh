@@ -4,7 +4,7 @@
 set -e
 cd "$(dirname "$(readlink -f "$0")")/.."
 . bench/scratch.sh
-scratch_with bench_records "dl_types dl_codec dl_record" dl_types dl_codec dl_record
+scratch_with bench_records "dl_types dl_codec dl_record" dl_types dl_reading dl_codec dl_record
 # an entry of 1,000 plain records of 1,000 bytes
 python3 - "$bench/data/entry" <<'P'
 import sys

@@ -3,7 +3,7 @@
 apart from the crate, finds in other bytes."""
 
 ALNUM = b"abcdefghijklmnopqrstuvwxyzABCDEFGHIJKLMNOPQRSTUVWXYZ0123456789_-"
-SHORT, BAD, LONG = 1000, 2000, 3000
+SHORT, BAD, LONG = "cut short", "bad kind", "bytes left over"
 
 
 class Fault(Exception):
@@ -144,9 +144,9 @@ class Reader:
 def found(b):
     try:
         Reader(bytes(b)).message()
-        return 0
+        return "message"
     except Fault as fault:
-        return sum(fault.args)
+        return "%s at %d" % fault.args
 
 
 def u(n, k):
@@ -228,20 +228,12 @@ FORMS = [
     b"\14" + ASKER + b"\7" + u(0, 2), b"\14" + ASKER + b"\7" + u(1, 2) + b"\7" + u(1, 2) + OPS[4],
     b"\15" + ASKER + b"\1\6" + u(1, 2) + b"\6" + u(0, 2), b"\15" + ASKER + b"\1\6" + u(1, 2) + b"\7" + u(0, 2) + b"\1",
 ]
-assert all(found(row) == 0 for row in ROWS)
+assert all(found(row) == "message" for row in ROWS)
 
-
-def table(name, kind, values, text):
-    print(f"{text}\npub static {name}: [{kind}; {len(values)}] = [")
-    for i in range(0, len(values), 16):
-        print("    " + ", ".join(str(x) for x in values[i:i + 16]) + ",")
-    print("];\n")
-
-
-print("//! Messages, and what is found in other bytes: 0 for a message, 1000 and the place where a field is cut short, 2000 and")
-print("//! the place of what isn't allowed, 3000 and the place of what is left over. Written by scripts/message_rows.py.\n")
-table("SIZES", "u16", [len(row) for row in ROWS], "/// How long each message is: one or more of every kind.")
-table("BYTES", "u8", b"".join(ROWS), "/// The messages, one behind another.")
-table("FORM_SIZES", "u16", [len(row) for row in FORMS], "/// How long each of the other rows is: forms of kinds, paths, names and lists.")
-table("FORM_BYTES", "u8", b"".join(FORMS), "/// These rows, one behind another.")
-table("FORMS", "u16", [found(row) for row in FORMS], "/// What is found in each of them.")
+print("//! Bytes in hex, and behind ` => ` what is found in them: a message, or a fault and its place. Written by")
+print("//! scripts/message_rows.py.\n")
+print("/// The rows: messages of every kind, and then forms of kinds, paths, names and lists.")
+print("pub fn rows() -> &'static str {\n    \"")
+for row in ROWS + FORMS:
+    print(f"{row.hex()} => {found(row)}")
+print("\"\n}")

@@ -88,20 +88,25 @@ body = record(7, 0, 5, b"hi") + record(8, 4, 5, payload) + record(10, 0, 6, b"x"
 entry = bytes([1, 0]) + field(3, 2) + field(len(body), 4) + body
 
 
-def table(name, outcomes):
-    print(f"pub static {name}: [(u8, usize); {len(outcomes)}] = [")
-    for letter, at in outcomes:
-        print(f"    (b'{letter}', {at}),")
-    print("];\n")
+def table(name, text, outcomes):
+    words = [f"{letter}{at}" for letter, at in outcomes]
+    print(f"\n/// {text}\npub fn {name}() -> &'static str {{\n    \"")
+    for i in range(0, len(words), 20):
+        print(" ".join(words[i:i + 20]))
+    print("\"\n}")
 
 
 print("//! An entry of three records, and what is found where it is spoilt: a letter for the kind of fault, or O for none, and")
 print("//! its place. Written by scripts/spoilt_entries.py.\n")
+print("/// The entry: a record, a record set of two members, and a record.")
 print(f"pub static ENTRY: [u8; {len(entry)}] = [")
-print("    " + ", ".join(str(x) for x in entry) + ",")
-print("];\n")
-table("CHANGED", [outcome(entry[:i] + bytes([entry[i] ^ 1]) + entry[i + 1:]) for i in range(len(entry))])
-table("CUT", [outcome(entry[:i]) for i in range(len(entry))])
-# the same cuts, with the length in the header that says so
-table("CUT_SHORT", [outcome(entry[:4] + field(i - 8, 4) + entry[8:i]) for i in range(8, len(entry))])
-table("ADDED", [outcome(entry + b"\0"), outcome(entry[:4] + field(len(body) + 1, 4) + body + b"\0")])
+for i in range(0, len(entry), 24):
+    print("    " + ", ".join(str(x) for x in entry[i:i + 24]) + ",")
+print("];")
+table("changed", "What is found with the lowest bit of each byte turned, by its place.",
+      [outcome(entry[:i] + bytes([entry[i] ^ 1]) + entry[i + 1:]) for i in range(len(entry))])
+table("cut_off", "What is found in the first bytes, by how many they are.", [outcome(entry[:i]) for i in range(len(entry))])
+table("cut_short", "What is found in them where the header says so many, from 0 behind it.",
+      [outcome(entry[:4] + field(i - 8, 4) + entry[8:i]) for i in range(8, len(entry))])
+table("added", "What is found with a byte more, where the header doesn't count it, and where it does.",
+      [outcome(entry + b"\0"), outcome(entry[:4] + field(len(body) + 1, 4) + body + b"\0")])

@@ -2,13 +2,16 @@
 use Rattle.std.proofs.Common.{◌≡◌, ℕ, ◌%◌, List, [], ◌∷◌, length, refl, ap, arith}
 use Rattle.std.specs.Int.{w8, w16, w32, w64, from_be_bytes, to_be_bytes}
 use Rattle.std.proofs.lemmas.Nat.{be_bytes_2, be_bytes_4, be_bytes_8, from_be_bytes-to_be_bytes_2, from_be_bytes-to_be_bytes_4, from_be_bytes-to_be_bytes_8}
-use Rattle.dl_codec.specs.Fields.{field, number_of, IsBytes, HasOneSpelling}
+use Rattle.dl_codec.specs.Fields.{field, number_of, IsBytes}
+use Rattle.dl_codec.specs.Laws.{HasOneSpelling}
 
+-- a byte spells the number that is read from it
 spelt_8 : (bytes : List ℕ) → length bytes ≡ 1 → IsBytes bytes → to_be_bytes w8 (from_be_bytes w8 bytes) ≡ bytes
 spelt_8 [] len fits = absurd (omega arith)
 spelt_8 (b ∷ []) len fits = let e : b % 256 ≡ b = omega (arith, fits 0) in ap (λ (x : ℕ). x ∷ []) e
 spelt_8 (b ∷ c ∷ bs) len fits = absurd (omega arith)
 
+-- Numbers of 8 bits have one spelling.
 pub width_8 : HasOneSpelling w8
 unfolding field number_of
 width_8 = record {
@@ -18,6 +21,7 @@ width_8 = record {
   below = λ bytes fits. omega (arith, fits 0);
 }
 
+-- Numbers of 16 bits have one spelling.
 pub width_16 : HasOneSpelling w16
 unfolding field number_of
 width_16 = record {
@@ -27,6 +31,7 @@ width_16 = record {
   below = λ bytes fits. omega (arith, fits 0, fits 1);
 }
 
+-- Numbers of 32 bits have one spelling.
 pub width_32 : HasOneSpelling w32
 unfolding field number_of
 width_32 = record {
@@ -36,6 +41,7 @@ width_32 = record {
   below = λ bytes fits. omega (arith, fits 0, fits 1, fits 2, fits 3);
 }
 
+-- Numbers of 64 bits have one spelling.
 pub width_64 : HasOneSpelling w64
 unfolding field number_of
 width_64 = record {

@@ -1,5 +1,5 @@
 -- Numbers as fields of bytes, the high byte first.
-use Rattle.std.specs.Prelude.{◌≡◌, ℕ, ◌+◌, ◌^◌, ◌<◌, List, length, take, drop, slice_index, Result, Ok, Err, nat_le, if◌then◌else◌}
+use Rattle.std.specs.Prelude.{ℕ, ◌+◌, ◌<◌, List, length, take, drop, slice_index, Result, Ok, Err, nat_le, if◌then◌else◌}
 use Rattle.std.specs.Int.{Width, byte_len, from_be_bytes, to_be_bytes}
 use Rattle.dl_codec.specs.declared.short.Short.{Short}
 
@@ -24,11 +24,3 @@ number_at w bytes at =
 -- each item is a byte
 abbrev pub IsBytes : List ℕ → Type 0
 IsBytes bytes = (i : ℕ) → slice_index bytes i < 256
-
--- Numbers of a width have one spelling each: a field is as long as the width says, a number is read from what spells
--- it, and bytes spell the number that is read from them.
-pub record HasOneSpelling (w : Width) : Type 0 where
-  pub len : (n : ℕ) → length (field w n) ≡ byte_len w
-  pub again : (n : ℕ) → n < 256 ^ byte_len w → number_of w (field w n) ≡ n
-  pub spelt : (bytes : List ℕ) → length bytes ≡ byte_len w → IsBytes bytes → field w (number_of w bytes) ≡ bytes
-  pub below : (bytes : List ℕ) → IsBytes bytes → number_of w bytes < 256 ^ byte_len w

@@ -2,7 +2,7 @@
 //! first.
 #![tactic(auto)]
 
-pub mod law;
+pub mod laws;
 pub mod read;
 pub mod short;
 #[cfg(test)]

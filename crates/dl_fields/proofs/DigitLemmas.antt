@@ -32,17 +32,21 @@ length-digits zero k = refl
 length-digits (suc n) k = omega (arith, length-append (digits n (k / 10)) ((48 + k % 10) ∷ []), length-digits n (k / 10))
 
 -- one digit more at the end
-pub digit_put : (n k : ℕ) (old mid new : List ℕ) → (n ≡ 0 → ⊥) → mid ≡ old ++ digits (n - 1) (k / 10) → new ≡ mid ++ (48 + k % 10) ∷ [] → new ≡ old ++ digits n k
+pub digit_put : (n k : ℕ) (old mid new : List ℕ) → (n ≡ 0 → ⊥) → mid ≡ old ++ digits (n - 1) (k / 10) → new ≡ mid ++ (48 + k % 10) ∷ []
+    → new ≡ old ++ digits n k
 digit_put zero k old mid new some m e = absurd (some refl)
 digit_put (suc n) k old mid new some m e =
     let less : suc n - 1 ≡ n = omega arith in
-    e ∙ ap (λ (t : List ℕ). t ++ (48 + k % 10) ∷ []) (m ∙ ap (λ (j : ℕ). old ++ digits j (k / 10)) less) ∙ append_assoc old (digits n (k / 10)) ((48 + k % 10) ∷ [])
+    e ∙ ap (λ (t : List ℕ). t ++ (48 + k % 10) ∷ []) (m ∙ ap (λ (j : ℕ). old ++ digits j (k / 10)) less)
+    ∙ append_assoc old (digits n (k / 10)) ((48 + k % 10) ∷ [])
 
 -- one digit more that was read
-pub digit_read : (n k b : ℕ) (text : List ℕ) → n < length text → get_or text n 0 ≡ 48 + b → b < 10 → k < 10 ^ n → digits n k ≡ take n text → (k * 10 + b < 10 ^ (n + 1)) × (digits (n + 1) (k * 10 + b) ≡ take (n + 1) text)
+pub digit_read : (n k b : ℕ) (text : List ℕ) → n < length text → get_or text n 0 ≡ 48 + b → b < 10 → k < 10 ^ n → digits n k ≡ take n text
+    → (k * 10 + b < 10 ^ (n + 1)) × (digits (n + 1) (k * 10 + b) ≡ take (n + 1) text)
 digit_read n k b text room here digit below spelt =
     let high : (k * 10 + b) / 10 ≡ k = omega arith in
     let low : (k * 10 + b) % 10 ≡ b = omega arith in
     let more : take (n + 1) text ≡ take n text ++ get_or text n 0 ∷ [] = take_more text n 0 room in
-    let last : digits (suc n) (k * 10 + b) ≡ take n text ++ (48 + b) ∷ [] = ap₂ (λ (j d : ℕ). digits n j ++ (48 + d) ∷ []) high low ∙ ap (λ (t : List ℕ). t ++ (48 + b) ∷ []) spelt in
+    let last : digits (suc n) (k * 10 + b) ≡ take n text ++ (48 + b) ∷ [] =
+    ap₂ (λ (j d : ℕ). digits n j ++ (48 + d) ∷ []) high low ∙ ap (λ (t : List ℕ). t ++ (48 + b) ∷ []) spelt in
     (rw add-one (omega (arith, pow-suc 10 n)), rw add-one (last ∙ ap (λ (d : ℕ). take n text ++ d ∷ []) (sym here)) ∙ sym more)

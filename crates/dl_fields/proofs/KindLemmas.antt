@@ -2,14 +2,15 @@
 use Rattle.std.proofs.Common.{◌≡◌, ℕ, ◌<◌, Bool, true, false, List, [], ◌++◌, Some, Result, Ok, Err, refl, sym, ap, subst, lit<}
 use Rattle.std.specs.List.{Contains}
 use Rattle.dl_fields.specs.declared.fault.Fault.{Fault}
-use Rattle.dl_fields.specs.Readers.{then_from, map_from, nothing_from, Exact}
+use Rattle.dl_fields.specs.Readers.{then_at, map_at, nothing_from, Exact}
 use Rattle.dl_fields.specs.Codes.{coded, code_byte, code_from}
 use Rattle.dl_fields.specs.Flags.{flag_code, flags, flag_byte, flag_from}
 use Rattle.dl_fields.proofs.ReaderLemmas.{Both, print_both, then_exact, made_exact, ok_is}
 use Rattle.dl_fields.proofs.CodeLemmas.{all_codes_exact}
 
 -- A field, and then one that doesn't depend on it.
-pub also_exact : {A B : Type 0} {V : A → Type 0} {p : A → List ℕ} {r : List ℕ → Result (A × List ℕ) Fault} {W : B → Type 0} {q : B → List ℕ} {s : List ℕ → Result (B × List ℕ) Fault} → Exact V p r → Exact W q s → Exact (Both V (λ a. W)) (print_both p (λ a. q)) (then_from r (λ a. s))
+pub also_exact : {A B : Type 0} {V : A → Type 0} {p : A → List ℕ} {r : List ℕ → Result (A × List ℕ) Fault} {W : B → Type 0} {q : B
+    → List ℕ} {s : List ℕ → Result (B × List ℕ) Fault} → Exact V p r → Exact W q s → Exact (Both V (λ a. W)) (print_both p (λ a. q)) (then_at r (λ a. s))
 also_exact {A} {B} {V} {p} {r} {W} {q} {s} first second = then_exact V p r (λ a. W) (λ a. q) (λ a. s) first (λ a v. second)
 
 -- No bytes, as the only value that is valid.
@@ -24,7 +25,9 @@ nothing_exact {A} a W q w e only = record {
 }
 
 -- A kind, and then what that kind says.
-pub kinded_exact : {K A : Type 0} {kp : K → List ℕ} {kr : List ℕ → Result (K × List ℕ) Fault} (kind_of : A → K) (W : A → Type 0) (rest : A → List ℕ) (read : K → List ℕ → Result (A × List ℕ) Fault) → Exact (λ (k : K). Unit {0}) kp kr → ((k : K) → Exact (λ a. W a × (kind_of a ≡ k)) rest (read k)) → Exact W (λ a. kp (kind_of a) ++ rest a) (map_from (λ x. x.1) (then_from kr read))
+pub kinded_exact : {K A : Type 0} {kp : K → List ℕ} {kr : List ℕ → Result (K × List ℕ) Fault} (kind_of : A → K) (W : A → Type 0) (rest : A → List ℕ)
+    (read : K → List ℕ → Result (A × List ℕ) Fault) → Exact (λ (k : K). Unit {0}) kp kr
+    → ((k : K) → Exact (λ a. W a × (kind_of a ≡ k)) rest (read k)) → Exact W (λ a. kp (kind_of a) ++ rest a) (map_at (λ x. x.1) (then_at kr read))
 kinded_exact {K} {A} {kp} {kr} kind_of W rest read first second =
     made_exact _ _ _ (λ x. x.1) W (λ a. kp (kind_of a) ++ rest a)
     (then_exact (λ (k : K). Unit {0}) kp kr (λ k a. W a × (kind_of a ≡ k)) (λ k. rest) read first (λ k u. second k))

@@ -23,15 +23,19 @@ record Rest (n : ℕ) (part : List ℕ) : Type 0 where
 abbrev Goes : ℕ → List ℕ → Type 0
 Goes n path = (part : List ℕ) × (parts : List (List ℕ)) × (path ≡ part ++ joined parts) × Rest n part × AllByRecursion IsPart parts
 
+-- what goes on to its end is a part
 part_of : (part : List ℕ) → Rest 0 part → IsPart part
 part_of part r = record { some = omega (arith, r.some); few = omega (arith, r.few); bytes = r.bytes }
 
+-- a part goes on to its end
 rest_of : (part : List ℕ) → IsPart part → Rest 0 part
 rest_of part r = record { some = omega (arith, r.some); few = omega (arith, r.few); bytes = r.bytes }
 
+-- a slash is no byte of a part
 slash_is_none : (c : ℕ) → c ≡ 47 → is_part_byte c ≡ false
 slash_is_none c e = rw e refl
 
+-- bytes without a flaw go on behind one more byte
 goes_step : (n c : ℕ) (cs : List ℕ) → n ≤ 80
     → (flaw_behind 0 cs ≡ None → Goes 0 cs) → (suc n ≤ 80 → flaw_behind (suc n) cs ≡ None → Goes (suc n) cs)
     → (a b t u : Bool) → eqb c 47 ≡ a → eqb n 0 ≡ b → is_part_byte c ≡ t → ltb n 80 ≡ u
@@ -50,15 +54,22 @@ goes_step n c cs le ends goes false b true true ea eb et eu e =
 goes_step n c cs le ends goes false b true false ea eb et eu e = absurd cc
 goes_step n c cs le ends goes false b false u ea eb et eu e = absurd cc
 
+-- a part of some bytes may end
 goes_end : (n : ℕ) → n ≤ 80 → (b : Bool) → eqb n 0 ≡ b → cond {A = Option ℕ} b (Some 1) None ≡ None → Goes n []
 goes_end n le true eb e = absurd cc
-goes_end n le false eb e = let some : 0 < n = grind (arith, nat_tests, eb) in ([], [], refl, record { some = omega (arith, some); few = omega (arith, le); bytes = tt }, tt)
+goes_end n le false eb e = let some : 0 < n = grind (arith, nat_tests, eb) in
+    ([], [], refl, record { some = omega (arith, some); few = omega (arith, le); bytes = tt }, tt)
 
+-- bytes without a flaw go on to their end
 flaw_none : (cs : List ℕ) (n : ℕ) → n ≤ 80 → flaw_behind n cs ≡ None → Goes n cs
 flaw_none [] n le e = goes_end n le (eqb n 0) refl e
-flaw_none (c ∷ cs) n le e = goes_step n c cs le (λ h. flaw_none cs 0 (omega arith) h) (λ less h. flaw_none cs (suc n) less h) (eqb c 47) (eqb n 0) (is_part_byte c) (ltb n 80) refl refl refl refl e
+flaw_none (c ∷ cs) n le e =
+    goes_step n c cs le (λ h. flaw_none cs 0 (omega arith) h) (λ less h. flaw_none cs (suc n) less h) (eqb c 47) (eqb n 0) (is_part_byte c)
+    (ltb n 80) refl refl refl refl e
 
-sound_go : (c : ℕ) (cs : List ℕ) (a b : Bool) → eqb c 47 ≡ a → eqb (length cs) 0 ≡ b → cond (not a) (Some (suc (length cs))) (cond b None (flaw_behind 0 cs)) ≡ None → IsPath (c ∷ cs)
+-- bytes without a flaw behind a first slash are a path
+sound_go : (c : ℕ) (cs : List ℕ) (a b : Bool) → eqb c 47 ≡ a → eqb (length cs) 0 ≡ b
+    → cond (not a) (Some (suc (length cs))) (cond b None (flaw_behind 0 cs)) ≡ None → IsPath (c ∷ cs)
 sound_go c cs false b ea eb e = absurd cc
 sound_go c [] true b ea eb e = ([], tt, ap (λ (x : ℕ). x ∷ []) (eqb-true c 47 ea))
 sound_go c (d ∷ cs) true true ea eb e = absurd (let wrong : eqb (suc (length cs)) 0 ≡ true = eb in grind (arith, nat_tests, wrong))
@@ -71,9 +82,11 @@ pub sound : (path : List ℕ) → 0 < length path → path_flaw path ≡ None �
 sound [] some e = absurd (omega (arith, some))
 sound (c ∷ cs) some e = sound_go c cs (eqb c 47) (eqb (length cs) 0) refl refl e
 
+-- a byte of a part is no slash
 no_slash : (c : ℕ) → is_part_byte c ≡ true → eqb c 47 ≡ false
 no_slash c h = elim (cases_eq c 47) [ inl e ↦ absurd (let wrong = slash_is_none c e in cc) | inr ne ↦ ne_eqb c 47 ne ]
 
+-- a byte of a part has no flaw where the bytes behind it have none
 none_go : (n c : ℕ) (cs : List ℕ) → is_part_byte c ≡ true → n < 80 → flaw_behind (suc n) cs ≡ None → flaw_behind n (c ∷ cs) ≡ None
 none_go n c cs byte few e = rw (no_slash c byte) (rw byte (rw (let t : ltb n 80 ≡ true = grind (arith, nat_tests, few) in t) e))
 
@@ -81,7 +94,9 @@ none_go n c cs byte few e = rw (no_slash c byte) (rw byte (rw (let t : ltb n 80 
 goes_none : (part : List ℕ) (parts : List (List ℕ)) (n : ℕ) → Rest n part → AllByRecursion IsPart parts → flaw_behind n (part ++ joined parts) ≡ None
 goes_none [] [] n r all = let some : eqb n 0 ≡ false = grind (arith, nat_tests, r.some) in rw some refl
 goes_none [] (p ∷ ps) n r all = let some : eqb n 0 ≡ false = grind (arith, nat_tests, r.some) in rw some (goes_none p ps 0 (rest_of p all.0) all.1)
-goes_none (c ∷ part) parts n r all = none_go n c (part ++ joined parts) r.bytes.0 (omega (arith, r.few)) (goes_none part parts (suc n) (record { some = omega arith; few = omega (arith, r.few); bytes = r.bytes.1 }) all)
+goes_none (c ∷ part) parts n r all =
+    none_go n c (part ++ joined parts) r.bytes.0 (omega (arith, r.few))
+    (goes_none part parts (suc n) (record { some = omega arith; few = omega (arith, r.few); bytes = r.bytes.1 }) all)
 
 -- The path of parts has no flaw.
 pub complete : (path : List ℕ) → IsPath path → path_flaw path ≡ None
@@ -101,12 +116,15 @@ back_behind [] n back e = go (eqb n 0) e
     go false h = absurd cc
 back_behind (c ∷ cs) n back e = go (eqb c 47) (eqb n 0) (is_part_byte c && ltb n 80) e (back_behind cs 0 back) (back_behind cs (suc n) back)
   where
-    go : (a b t : Bool) → cond a (cond b (Some (suc (length cs))) (flaw_behind 0 cs)) (cond t (flaw_behind (suc n) cs) (Some (suc (length cs)))) ≡ Some back → (flaw_behind 0 cs ≡ Some back → back ≤ suc (length cs)) → (flaw_behind (suc n) cs ≡ Some back → back ≤ suc (length cs)) → back ≤ suc (suc (length cs))
+    go : (a b t : Bool) → cond a (cond b (Some (suc (length cs))) (flaw_behind 0 cs))
+        (cond t (flaw_behind (suc n) cs) (Some (suc (length cs)))) ≡ Some back → (flaw_behind 0 cs ≡ Some back → back ≤ suc (length cs))
+        → (flaw_behind (suc n) cs ≡ Some back → back ≤ suc (length cs)) → back ≤ suc (suc (length cs))
     go true true t h x y = let is : suc (length cs) ≡ back = cc in omega (arith, is)
     go true false t h x y = omega (arith, x h)
     go false b true h x y = omega (arith, y h)
     go false b false h x y = let is : suc (length cs) ≡ back = cc in omega (arith, is)
 
+-- The flaw of a path stands within it.
 pub path_back : (path : List ℕ) (back : ℕ) → path_flaw path ≡ Some back → back ≤ length path
 path_back [] back e = absurd cc
 path_back (c ∷ cs) back e = go (eqb c 47) (eqb (length cs) 0) e
@@ -116,48 +134,60 @@ path_back (c ∷ cs) back e = go (eqb c 47) (eqb (length cs) 0) e
     go true true h = absurd cc
     go true false h = back_behind cs 0 back h
 
--- names
+-- ---- names
 
+-- a part without a flaw has 80 bytes at most, and all of them may stand in one
 part_none : (part : List ℕ) (n : ℕ) → n ≤ 80 → part_flaw n part ≡ None → (n + length part ≤ 80) × AllByRecursion (λ c. is_part_byte c ≡ true) part
 part_none [] n le e = (omega (arith, le), tt)
 part_none (c ∷ cs) n le e = go (is_part_byte c) (ltb n 80) refl refl e (λ less. part_none cs (suc n) less)
   where
-    go : (t u : Bool) → is_part_byte c ≡ t → ltb n 80 ≡ u → cond (t && u) (part_flaw (suc n) cs) (Some (suc (length cs))) ≡ None → (suc n ≤ 80 → part_flaw (suc n) cs ≡ None → (suc n + length cs ≤ 80) × AllByRecursion (λ c. is_part_byte c ≡ true) cs) → (n + suc (length cs) ≤ 80) × AllByRecursion (λ c. is_part_byte c ≡ true) (c ∷ cs)
+    go : (t u : Bool) → is_part_byte c ≡ t → ltb n 80 ≡ u → cond (t && u) (part_flaw (suc n) cs) (Some (suc (length cs))) ≡ None
+        → (suc n ≤ 80 → part_flaw (suc n) cs ≡ None → (suc n + length cs ≤ 80) × AllByRecursion (λ c. is_part_byte c ≡ true) cs)
+        → (n + suc (length cs) ≤ 80) × AllByRecursion (λ c. is_part_byte c ≡ true) (c ∷ cs)
     go true true t u h ih = let i = ih (grind (arith, nat_tests, u)) h in (omega (arith, i.0), (t, i.1))
     go true false t u h ih = absurd cc
     go false u' t u h ih = absurd cc
 
+-- 80 bytes at most that may stand in a part have no flaw
 part_has_none : (part : List ℕ) (n : ℕ) → n + length part ≤ 80 → AllByRecursion (λ c. is_part_byte c ≡ true) part → part_flaw n part ≡ None
 part_has_none [] n le all = refl
-part_has_none (c ∷ cs) n le all = rw all.0 (rw (let t : ltb n 80 ≡ true = grind (arith, nat_tests, le) in t) (part_has_none cs (suc n) (omega (arith, le)) all.1))
+part_has_none (c ∷ cs) n le all =
+    rw all.0 (rw (let t : ltb n 80 ≡ true = grind (arith, nat_tests, le) in t) (part_has_none cs (suc n) (omega (arith, le)) all.1))
 
+-- the flaw of a part stands within it
 part_back : (part : List ℕ) (n back : ℕ) → part_flaw n part ≡ Some back → back ≤ length part
 part_back [] n back e = absurd cc
 part_back (c ∷ cs) n back e = go (is_part_byte c && ltb n 80) e (part_back cs (suc n) back)
   where
-    go : (t : Bool) → cond t (part_flaw (suc n) cs) (Some (suc (length cs))) ≡ Some back → (part_flaw (suc n) cs ≡ Some back → back ≤ length cs) → back ≤ suc (length cs)
+    go : (t : Bool) → cond t (part_flaw (suc n) cs) (Some (suc (length cs))) ≡ Some back → (part_flaw (suc n) cs ≡ Some back → back ≤ length cs)
+        → back ≤ suc (length cs)
     go true h ih = omega (arith, ih h)
     go false h ih = let is : suc (length cs) ≡ back = cc in omega (arith, is)
 
--- the readers
+-- ---- the readers
 
 -- a reader that is exact for one condition is exact for another that says the same
-pub exact_as : {A : Type 0} {V W : A → Type 0} {p : A → List ℕ} {r : List ℕ → Result (A × List ℕ) Fault} → Exact V p r → ((a : A) → V a → W a) → ((a : A) → W a → V a) → Exact W p r
+pub exact_as : {A : Type 0} {V W : A → Type 0} {p : A → List ℕ} {r : List ℕ → Result (A × List ℕ) Fault} → Exact V p r → ((a : A) → V a → W a)
+    → ((a : A) → W a → V a) → Exact W p r
 exact_as exact to from = record {
   found = λ bytes a rest fits e. let f = exact.found bytes a rest fits e in (to a f.0, f.1);
   again = λ a rest w. exact.again a rest (from a w);
   within = exact.within;
 }
 
+-- bytes behind their length, at least one, are read exactly
 some_exact : Exact (λ run. IsCounted w16 run × (not (eqb (length run) 0) ≡ true)) (counted w16) some_from
 some_exact = passing_exact (IsCounted w16) (counted w16) (counted_from w16) (λ run. not (eqb (length run) 0)) run16_exact
 
+-- a number that is not 0 is above it
 some_bytes : (n : ℕ) → not (eqb n 0) ≡ true → 0 < n
 some_bytes n h = grind (arith, nat_tests, h)
 
+-- a number above 0 is not 0
 some_test : (n : ℕ) → 0 < n → not (eqb n 0) ≡ true
 some_test n h = grind (arith, nat_tests, h)
 
+-- a path has a byte
 path_some : (path : List ℕ) → IsPath path → 0 < length path
 path_some path ([], all, e) = rw e (omega arith)
 path_some path (p ∷ ps, all, e) = rw e (omega arith)
@@ -166,18 +196,22 @@ path_some path (p ∷ ps, all, e) = rw e (omega arith)
 counted_long : (run : List ℕ) (back : ℕ) → back ≤ length run → back ≤ length (counted w16 run)
 counted_long run back le = omega (arith, le, length-append (field w16 (length run)) run)
 
+-- Paths are read exactly.
 pub path_exact : Exact IsPathField (counted w16) path_from
 path_exact = exact_as (flawless_exact _ (counted w16) some_from path_flaw (λ a back e. counted_long a back (path_back a back e)) some_exact)
     (λ path v. (sound path (some_bytes (length path) v.0.1) v.1, v.0.0))
     (λ path w. ((w.1, some_test (length path) (path_some path w.0)), complete path w.0))
 
+-- Paths to which ten digits may be added are read exactly.
 pub stem_exact : Exact IsStemField (counted w16) stem_from
 stem_exact = passing_exact IsPathField (counted w16) path_from is_stem path_exact
 
+-- Names of listings are read exactly.
 pub name_exact : Exact IsPart (counted w16) name_from
 name_exact = exact_as (flawless_exact _ (counted w16) some_from (part_flaw 0) (λ a back e. counted_long a back (part_back a 0 back e)) some_exact)
     (λ part v. let n = part_none part 0 (omega arith) v.1 in record { some = some_bytes (length part) v.0.1; few = omega (arith, n.0); bytes = n.1 })
     (λ part w. ((omega (arith, w.few), some_test (length part) w.some), part_has_none part 0 (omega (arith, w.few)) w.bytes))
 
+-- Paths, stems and names are read exactly, and the flaw of a path is none exactly where it has the form.
 pub paths_exact : PathsAreExact
 paths_exact = record { path = path_exact; stem = stem_exact; name = name_exact; sound = sound; complete = complete }

@@ -4,7 +4,7 @@ use Rattle.std.specs.List.{flat_map}
 use Rattle.std.specs.Int.{Width}
 use Rattle.dl_codec.specs.Fields.{field}
 use Rattle.dl_fields.specs.declared.fault.Fault.{Fault}
-use Rattle.dl_fields.specs.Readers.{◌>>=◌, then_from, map_from}
+use Rattle.dl_fields.specs.Readers.{◌>>=◌, then_at, map_at}
 
 -- so many values
 abbrev pub items_from : {A : Type 0} → (List ℕ → Result (A × List ℕ) Fault) → ℕ → List ℕ → Result (List A × List ℕ) Fault
@@ -13,7 +13,7 @@ items_from read (suc n) bytes = read bytes >>= λ x. items_from read n x.1 >>= �
 
 -- values behind their count
 abbrev pub list_from : {A : Type 0} → (List ℕ → Result (ℕ × List ℕ) Fault) → (List ℕ → Result (A × List ℕ) Fault) → List ℕ → Result (List A × List ℕ) Fault
-list_from count read = map_from (λ x. x.1) (then_from count (items_from read))
+list_from count read = map_at (λ x. x.1) (then_at count (items_from read))
 
 -- the spelling of values behind their count
 abbrev pub list_bytes : {A : Type 0} → Width → (A → List ℕ) → List A → List ℕ

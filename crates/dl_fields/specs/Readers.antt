@@ -1,25 +1,12 @@
 -- Readers of bytes: a reader takes one value off the front of the bytes, or says which fault comes first, and how many
 -- bytes are left at it.
 use Rattle.std.specs.Prelude.{◌≡◌, ℕ, ◌≤◌, Bool, List, ◌++◌, length, Option, Some, None, Result, Ok, Err, ◌==◌, ◌+◌, if◌then◌else◌}
+pub use Rattle.dl_reading.specs.Readings.{◌>>=◌, then_at, map_at, FaultBy, GivesBy}
 use Rattle.dl_codec.specs.Fields.{IsBytes}
 use Rattle.dl_fields.specs.declared.fault.Fault.{Fault}
 use Rattle.dl_fields.specs.declared.fault.Fault.TheVariants.{Short, Bad, Long}
 use Rattle.dl_fields.specs.declared.stop.Stop.{Stop}
 use Rattle.dl_fields.specs.declared.stop.Stop.TheVariants as stop
-
--- one reading and then another; the first fault is the fault of both
-infixl 10 ◌>>=◌
-abbrev pub ◌>>=◌ : {A B : Type 0} → Result A Fault → (A → Result B Fault) → Result B Fault
-(Ok x) >>= f = f x
-(Err fault) >>= f = Err fault
-
--- a field and then another, which may depend on it
-abbrev pub then_from : {A B : Type 0} → (List ℕ → Result (A × List ℕ) Fault) → (A → List ℕ → Result (B × List ℕ) Fault) → List ℕ → Result ((A × B) × List ℕ) Fault
-then_from first second bytes = first bytes >>= λ x. second x.0 x.1 >>= λ y. Ok ((x.0, y.0), y.1)
-
--- a field as another value
-abbrev pub map_from : {A B : Type 0} → (A → B) → (List ℕ → Result (A × List ℕ) Fault) → List ℕ → Result (B × List ℕ) Fault
-map_from make read bytes = read bytes >>= λ x. Ok (make x.0, x.1)
 
 -- no bytes, as a value
 abbrev pub nothing_from : {A : Type 0} → A → List ℕ → Result (A × List ℕ) Fault
@@ -50,20 +37,18 @@ ended x = if length x.1 == 0 then Ok x.0 else Err (Long (length x.1))
 abbrev pub whole_from : {A : Type 0} → (List ℕ → Result (A × List ℕ) Fault) → List ℕ → Result A Fault
 whole_from read bytes = read bytes >>= ended
 
--- where a function that takes memory stops, the reading has that fault; or memory ran out
-abbrev pub Stops : {Y : Type 0} → Stop → Result Y Fault → Type 0
-Stops stop.NoMemory read = Unit {0}
-Stops (stop.Fault fault) read = read ≡ Err fault
+-- the fault of the bytes that a stop names; want of memory names none
+abbrev pub fault_of : Stop → Option Fault
+fault_of stop.NoMemory = None
+fault_of (stop.Fault fault) = Some fault
 
 -- what a function that takes memory returned, seen by view, is what the reading gives, unless memory ran out
 abbrev pub Gives : {X Y : Type 0} → (X → Y) → Result X Stop → Result Y Fault → Type 0
-Gives view (Ok x) read = read ≡ Ok (view x)
-Gives view (Err s) read = Stops s read
+Gives = GivesBy fault_of
 
 -- what a function that takes no memory returned, seen by view, is what the reading gives
 abbrev pub Reads : {X Y F : Type 0} → (X → Y) → Result X F → Result Y F → Type 0
-Reads view (Ok x) read = read ≡ Ok (view x)
-Reads view (Err fault) read = read ≡ Err fault
+Reads = GivesBy Some
 
 -- a fault stands within so many bytes
 abbrev pub IsWithin : ℕ → Fault → Type 0

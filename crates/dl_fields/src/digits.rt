@@ -17,7 +17,8 @@ pub fn put_digits(out: &mut Vec<u8>, count: u8, number: u64) -> Result<(), NoMem
 
 /// The number that ten digits spell, and nothing where the text is something else.
 pub fn read_ten_digits(text: &[u8]) -> Option<u64>
-    ensures { MatchOption result ((k : ℕ) → text.now ≡ digits 10 k → ⊥) (λ k. HasTenDigits k × (text.now ≡ digits 10 k)) }
+    ensures { MatchOption result ((k : ℕ) → text.now ≡ digits 10 k → ⊥)
+        (λ k. HasTenDigits k × (text.now ≡ digits 10 k)) }
 {
     if text.len() != 10 {
         return None;

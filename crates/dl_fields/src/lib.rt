@@ -6,6 +6,7 @@ pub mod code;
 pub mod digits;
 pub mod fault;
 pub mod flag;
+pub mod items;
 pub mod laws;
 pub mod number;
 pub mod path;

@@ -1,10 +1,14 @@
 ghost use Rattle.std.specs.Prelude.{if◌then◌else◌};
+ghost use Rattle.std.specs.Int.{w8};
+ghost use Rattle.dl_fields.specs.Fields.{number_from};
 
 use crate::code::{Code, read_code};
 use crate::fault::Fault;
+use crate::items::{ItemReader, read_items};
 use crate::number::{read_u8, read_u16, read_u32, read_u64};
 use crate::path::{is_stem, part_flaw, path_flaw, read_name, read_path, read_stem};
 use crate::run::{read_run, read_run_u16, read_run_u32};
+use crate::stop::Stop;
 use crate::write::{put_run_u16, put_run_u32};
 use dl_types::memory::NoMemory;
 use std::alloc::Global;
@@ -22,6 +26,19 @@ impl Code for Colour {
 
     fn code(self) -> u8 {
         if self.0 { 7 } else { 1 }
+    }
+}
+
+/// A list of bytes.
+struct ByteReader;
+
+impl ItemReader for ByteReader {
+    type Item = u8;
+
+    ghost from = { λ _. number_from w8 };
+
+    fn read_item<'a>(&self, _alloc: Global, bytes: &'a [u8]) -> Result<(u8, &'a [u8]), Stop> {
+        Ok(read_u8(bytes)?)
     }
 }
 
@@ -79,8 +96,15 @@ fn counts_the_bytes_of_a_part(rt: HostRuntime) -> Result<(), Fail> {
 }
 
 #[test]
-fn reads_a_code_and_writes_runs(rt: HostRuntime) -> Result<(), Fail> {
+fn reads_codes_and_items_and_writes_runs(rt: HostRuntime) -> Result<(), Fail> {
     let alloc = rt.alloc();
+    let (items, rest) = read_items(alloc, &ByteReader, 2, &[7, 8, 9])?;
+    assert_eq!(rt;
+        (items.as_slice(), rest),
+        ([7, 8].as_slice(), [9].as_slice())
+    );
+    let missing = read_items(alloc, &ByteReader, 2, &[7]).err();
+    assert_eq!(rt; missing, Some(Stop::Fault(Fault::Short(0))));
     let colours = [RED, BLUE];
     let bytes = [7u8, 2].as_slice();
     assert_eq!(rt; read_code(&colours, bytes), Ok((BLUE, &bytes[1..])));

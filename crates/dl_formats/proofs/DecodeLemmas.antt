@@ -2,7 +2,8 @@
 use Rattle.std.proofs.Common.{◌≡◌, ℕ, ◌<◌, ◌^◌, nat_le, ◌&&◌, true, List, ◌++◌, length, Result, Ok, Err, refl, sym, ap, ◌∙◌, arith, lit<, lit≤}
 use Rattle.std.specs.Int.{Width, byte_len, w8, w64}
 use Rattle.std.proofs.lemmas.Bool.{and_parts, and_from, leb-true, le-leb}
-use Rattle.dl_codec.specs.Fields.{field, IsBytes, HasOneSpelling}
+use Rattle.dl_codec.specs.Fields.{field, IsBytes}
+use Rattle.dl_codec.specs.Laws.{HasOneSpelling}
 use Rattle.dl_codec.proofs.FieldLaws.{width_8, width_64}
 use Rattle.dl_fields.specs.declared.fault.Fault.{Fault}
 use Rattle.dl_fields.specs.Readers.{Exact}
@@ -41,7 +42,8 @@ long_exact low high fits = between_exact w64 width_64 low high fits
 -- fields behind a version
 
 -- fields behind the version are read exactly
-versioned_exact : {A : Type 0} {V : A → Type 0} {p : A → List ℕ} {r : List ℕ → Result (A × List ℕ) Fault} → Exact V p r → Exact V (λ a. versioned (p a)) (versioned_from r)
+versioned_exact : {A : Type 0} {V : A → Type 0} {p : A → List ℕ} {r : List ℕ → Result (A × List ℕ) Fault} → Exact V p r
+    → Exact V (λ a. versioned (p a)) (versioned_from r)
 versioned_exact {A} {V} {p} {r} exact = made_exact _ _ _ (λ x. x.1) V (λ a. versioned (p a))
     (then_exact (IsBetween 1 1) (field w8) (between_from w8 1 1) (λ n. V) (λ n. p) (λ n. r) (byte_exact 1 1 (lit< tt)) (λ n v. exact))
     (λ x v. let one : 1 ≡ x.0 = omega (arith, v.0.least, v.0.most) in (v.1, ap (λ (n : ℕ). field w8 n ++ p x.1) one))
@@ -55,19 +57,23 @@ with_place_ok size (Ok b) a e = cc
 with_place_ok size (Err fault) a e = absurd cc
 
 -- what is read of a node is valid, and its bytes are the spelling
-pub node_found : {A : Type 0} {V : A → Type 0} {p : A → List ℕ} {r : List ℕ → Result (A × List ℕ) Fault} → Exact V p r → (bytes : List ℕ) (a : A) → IsBytes bytes → node_at r bytes ≡ Ok a → V a × (bytes ≡ versioned (p a))
+pub node_found : {A : Type 0} {V : A → Type 0} {p : A → List ℕ} {r : List ℕ → Result (A × List ℕ) Fault} → Exact V p r → (bytes : List ℕ) (a : A)
+    → IsBytes bytes → node_at r bytes ≡ Ok a → V a × (bytes ≡ versioned (p a))
 node_found {r = r} exact bytes a fits e = whole_found (versioned_exact exact) bytes a fits (with_place_ok (length bytes) (node_from r bytes) a e)
 
 -- a node is read of its spelling
-pub node_again : {A : Type 0} {V : A → Type 0} {p : A → List ℕ} {r : List ℕ → Result (A × List ℕ) Fault} → Exact V p r → (bytes : List ℕ) (a : A) → V a → bytes ≡ versioned (p a) → node_at r bytes ≡ Ok a
+pub node_again : {A : Type 0} {V : A → Type 0} {p : A → List ℕ} {r : List ℕ → Result (A × List ℕ) Fault} → Exact V p r → (bytes : List ℕ) (a : A)
+    → V a → bytes ≡ versioned (p a) → node_at r bytes ≡ Ok a
 node_again {p = p} {r = r} exact bytes a v e = ap (node_at r) e ∙ ap (with_place (length (versioned (p a)))) (whole_again (versioned_exact exact) a v)
 
 -- where a node has a fault, its bytes spell nothing valid
-pub node_refused : {A : Type 0} {V : A → Type 0} {p : A → List ℕ} {r : List ℕ → Result (A × List ℕ) Fault} → Exact V p r → (bytes : List ℕ) (fault : MetaBytesFault) → node_at r bytes ≡ Err fault → SpellsNone V (λ a. versioned (p a)) bytes
+pub node_refused : {A : Type 0} {V : A → Type 0} {p : A → List ℕ} {r : List ℕ → Result (A × List ℕ) Fault} → Exact V p r
+    → (bytes : List ℕ) (fault : MetaBytesFault) → node_at r bytes ≡ Err fault → SpellsNone V (λ a. versioned (p a)) bytes
 node_refused {A} {V} {p} {r} exact bytes fault e a v same = let clash : Ok a ≡ Err fault = sym (node_again exact bytes a v same) ∙ e in cc
 
 -- What a decoder answers that reads a node.
-pub decodes : {A : Type 0} {V : A → Type 0} {p : A → List ℕ} {r : List ℕ → Result (A × List ℕ) Fault} → Exact V p r → (bytes : List ℕ) (result : Result A MetaBytesFault)
+pub decodes : {A : Type 0} {V : A → Type 0} {p : A → List ℕ} {r : List ℕ → Result (A × List ℕ) Fault} → Exact V p r
+    → (bytes : List ℕ) (result : Result A MetaBytesFault)
     → IsBytes bytes → result ≡ node_at r bytes → Decodes V (λ a. versioned (p a)) (node_at r) bytes result
 decodes exact bytes (Ok a) fits e = record {
   found = node_found exact bytes a fits (sym e);

@@ -56,7 +56,8 @@ count_fits Closed = lit< tt
 
 pub ledger_exact : Exact IsLedgerFields ledger_fields ledger_from
 ledger_exact = made_exact _ _ _ ledger_of IsLedgerFields ledger_fields
-    (then_exact _ _ _ _ _ _ state_exact (λ s z. then_exact _ _ _ _ _ _ (byte_exact 1 16 (lit< tt)) (λ e v. then_exact _ _ _ _ _ _ (byte_exact 1 e (omega (arith, v.most)))
+    (then_exact _ _ _ _ _ _ state_exact
+    (λ s z. then_exact _ _ _ _ _ _ (byte_exact 1 16 (lit< tt)) (λ e v. then_exact _ _ _ _ _ _ (byte_exact 1 e (omega (arith, v.most)))
     (λ qw w. then_exact _ _ _ _ _ _ (byte_exact 1 qw (omega (arith, v.most, w.most))) (λ qa u. long_exact 0 (most_count s) (count_fits s))))))
     (λ x v. (v.1, refl)) (λ l w. ((l.state, (l.e, (l.qw, (l.qa, l.count)))), (tt, w), refl))
 
@@ -80,7 +81,10 @@ completed_exact = made_exact _ _ _ (λ x. Completed x.0 x.1.0 x.1.1.0 x.1.1.1.0 
     (λ l w. then_exact _ _ _ _ _ _ u64_exact (λ e u. then_exact _ _ _ _ _ _ u64_exact (λ r t. long_exact 0 MAX_TXID (lit< tt))))))
     (λ x v. ((v, refl), refl)) from
   where
-    from : (m : SegmentMeta) → IsKind 2 m → (x : ℕ × (ℕ × (ℕ × (ℕ × ℕ)))) × (IsBetween 1 ten_nines x.0 × (IsBetween 0 ten_nines x.1.0 × (Fits w64 x.1.1.0 × (Fits w64 x.1.1.1.0 × IsBetween 0 MAX_TXID x.1.1.1.1)))) × (Completed x.0 x.1.0 x.1.1.0 x.1.1.1.0 x.1.1.1.1 ≡ m)
+    from : (m : SegmentMeta) → IsKind 2 m
+        → (x : ℕ × (ℕ × (ℕ × (ℕ × ℕ))))
+        × (IsBetween 1 ten_nines x.0 × (IsBetween 0 ten_nines x.1.0 × (Fits w64 x.1.1.0 × (Fits w64 x.1.1.1.0 × IsBetween 0 MAX_TXID x.1.1.1.1))))
+        × (Completed x.0 x.1.0 x.1.1.0 x.1.1.1.0 x.1.1.1.1 ≡ m)
     from (InProgress s l) w = absurd (omega (arith, w.1))
     from (Completed s l e r t) w = ((s, (l, (e, (r, t)))), w.0, refl)
 
@@ -124,17 +128,20 @@ allocated_fits flag = go (flag == 0)
     go true = lit< tt
     go false = lit< tt
 
-alloc_is : (flag ledger : ℕ) → IsBetween 0 1 flag → IsBetween 0 (most_allocated flag) ledger → IsAlloc (alloc_of (flag, ledger)) × (alloc_fields (alloc_of (flag, ledger)) ≡ field w8 flag ++ field w64 ledger)
+alloc_is : (flag ledger : ℕ) → IsBetween 0 1 flag → IsBetween 0 (most_allocated flag) ledger
+    → IsAlloc (alloc_of (flag, ledger)) × (alloc_fields (alloc_of (flag, ledger)) ≡ field w8 flag ++ field w64 ledger)
 alloc_is flag ledger f l = go (flag == 0) refl l
   where
-    go : (t : Bool) → (flag == 0) ≡ t → IsBetween 0 (cond t 0 ten_nines) ledger → IsAllocated (cond t None (Some ledger)) × (alloc_fields_of (cond t None (Some ledger)) ≡ field w8 flag ++ field w64 ledger)
+    go : (t : Bool) → (flag == 0) ≡ t → IsBetween 0 (cond t 0 ten_nines) ledger
+        → IsAllocated (cond t None (Some ledger)) × (alloc_fields_of (cond t None (Some ledger)) ≡ field w8 flag ++ field w64 ledger)
     go true p h =
         let zero_flag : 0 ≡ flag = sym (eqb-true flag 0 p) in
         let zero_ledger : 0 ≡ ledger = omega (arith, h.most) in
         (tt, ap (λ (n : ℕ). field w8 n ++ field w64 0) zero_flag ∙ ap (λ (n : ℕ). field w8 flag ++ field w64 n) zero_ledger)
     go false p h = let one : 1 ≡ flag = grind (arith, nat_tests, f.most) in (h, ap (λ (n : ℕ). field w8 n ++ field w64 ledger) one)
 
-alloc_from_option : (o : Option ℕ) → IsAllocated o → (x : ℕ × ℕ) × (IsBetween 0 1 x.0 × IsBetween 0 (most_allocated x.0) x.1) × (alloc_of x ≡ record { ledger = o })
+alloc_from_option : (o : Option ℕ) → IsAllocated o
+    → (x : ℕ × ℕ) × (IsBetween 0 1 x.0 × IsBetween 0 (most_allocated x.0) x.1) × (alloc_of x ≡ record { ledger = o })
 alloc_from_option None w = ((0, 0), (record { least = lit≤ tt; most = lit≤ tt }, record { least = lit≤ tt; most = lit≤ tt }), refl)
 alloc_from_option (Some ledger) w = ((1, ledger), (record { least = lit≤ tt; most = lit≤ tt }, w), refl)
 
@@ -164,8 +171,10 @@ rules_alike e qw qa = hlevel le_prop
 -- metadata of the same fields are the same
 pub same_meta : (a b : LedgerMeta) → fields_of a ≡ fields_of b → a ≡ b
 same_meta a b e =
-    let make : (l : LedgerFields) × IsQuorum l.e l.qw l.qa → LedgerMeta = λ x. record { state = x.0.state; q = record { e = x.0.e; qw = x.0.qw; qa = x.0.qa; rule = x.1 }; count = x.0.count } in
-    let pairs : ◌≡◌ {A = (l : LedgerFields) × IsQuorum l.e l.qw l.qa} (fields_of a, a.q.rule) (fields_of b, b.q.rule) = Σ_prop_path (λ l. rules_alike l.e l.qw l.qa) e in
+    let make : (l : LedgerFields) × IsQuorum l.e l.qw l.qa → LedgerMeta =
+    λ x. record { state = x.0.state; q = record { e = x.0.e; qw = x.0.qw; qa = x.0.qa; rule = x.1 }; count = x.0.count } in
+    let pairs : ◌≡◌ {A = (l : LedgerFields) × IsQuorum l.e l.qw l.qa} (fields_of a, a.q.rule) (fields_of b, b.q.rule) =
+    Σ_prop_path (λ l. rules_alike l.e l.qw l.qa) e in
     ap make pairs
 
 -- metadata by the fields that were read
@@ -173,7 +182,8 @@ same_meta a b e =
 pub read_quorum : (bytes : List ℕ) (l : LedgerFields) → IsBytes bytes → ledger_at bytes ≡ Ok l → IsQuorum l.e l.qw l.qa
 read_quorum bytes l fits e = fields_quorum l (node_found ledger_exact bytes l fits e).0
 
-pub ledger_found : (bytes : List ℕ) (l : LedgerFields) (m : LedgerMeta) → IsBytes bytes → ledger_at bytes ≡ Ok l → fields_of m ≡ l → IsLedgerMeta m × (bytes ≡ ledger_bytes m)
+pub ledger_found : (bytes : List ℕ) (l : LedgerFields) (m : LedgerMeta) → IsBytes bytes → ledger_at bytes ≡ Ok l → fields_of m ≡ l
+    → IsLedgerMeta m × (bytes ≡ ledger_bytes m)
 ledger_found bytes l m fits e same =
     let read : ledger_at bytes ≡ Ok (fields_of m) = e ∙ ap (λ (x : LedgerFields). Ok x) (sym same) in
     let f = node_found ledger_exact bytes (fields_of m) fits read in (f.0.1.1.1, f.1)
@@ -181,7 +191,8 @@ ledger_found bytes l m fits e same =
 pub ledger_again : (bytes : List ℕ) (m : LedgerMeta) → IsLedgerMeta m → bytes ≡ ledger_bytes m → ledger_at bytes ≡ Ok (fields_of m)
 ledger_again bytes m valid spelt = node_again ledger_exact bytes (fields_of m) (meta_fields m valid) spelt
 
-pub ledger_only : (bytes : List ℕ) (l : LedgerFields) (m x : LedgerMeta) → ledger_at bytes ≡ Ok l → fields_of m ≡ l → IsLedgerMeta x → bytes ≡ ledger_bytes x → m ≡ x
+pub ledger_only : (bytes : List ℕ) (l : LedgerFields) (m x : LedgerMeta) → ledger_at bytes ≡ Ok l → fields_of m ≡ l → IsLedgerMeta x
+    → bytes ≡ ledger_bytes x → m ≡ x
 ledger_only bytes l m x e same valid spelt =
     let read : Ok (fields_of x) ≡ Ok l = sym (ledger_again bytes x valid spelt) ∙ e in
     let one : fields_of x ≡ l = cc in same_meta m x (same ∙ sym one)

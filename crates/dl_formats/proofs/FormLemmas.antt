@@ -62,7 +62,8 @@ record Good (at : ℕ) (xs : List ℕ) : Type 0 where
   bytes : ArePartBytes xs
   apart : NoSlash xs
 
-good_more : (at c : ℕ) (cs : List ℕ) (s t : Bool) → nat_le 64 at ≡ s → is_name_byte c ≡ t → cond s (Some 64) (cond t (bad_from (at + 1) cs) (Some at)) ≡ None → (at + 1 ≤ 64 → bad_from (at + 1) cs ≡ None → Good (at + 1) cs) → Good at (c ∷ cs)
+good_more : (at c : ℕ) (cs : List ℕ) (s t : Bool) → nat_le 64 at ≡ s → is_name_byte c ≡ t
+    → cond s (Some 64) (cond t (bad_from (at + 1) cs) (Some at)) ≡ None → (at + 1 ≤ 64 → bad_from (at + 1) cs ≡ None → Good (at + 1) cs) → Good at (c ∷ cs)
 good_more at c cs true t p q e more = absurd cc
 good_more at c cs false false p q e more = absurd cc
 good_more at c cs false true p q e more =
@@ -170,7 +171,17 @@ path_fits k h = omega (arith, joined_few (parts_of k) (parts_are k h), few_parts
 
 ledger_stem_is : IsStemField ledger_stem
 unfolding ledger_stem
-ledger_stem_is = (((codes "ledgers" ∷ codes "L" ∷ [], (fixed (codes "ledgers") (lit< tt) (lit≤ tt) refl, (fixed (codes "L") (lit< tt) (lit≤ tt) refl, tt)), refl), lit< tt), refl)
+ledger_stem_is = (
+  (
+    (
+      codes "ledgers" ∷ codes "L" ∷ [],
+      (fixed (codes "ledgers") (lit< tt) (lit≤ tt) refl, (fixed (codes "L") (lit< tt) (lit≤ tt) refl, tt)),
+      refl,
+    ),
+    lit< tt,
+  ),
+  refl,
+)
 
 member_parts_are : (s : List ℕ) → IsName s → AllByRecursion IsPart (codes "streams" ∷ s ∷ codes "lock" ∷ codes "m-" ∷ [])
 member_parts_are s h = (streams_part, (named s h, (fixed (codes "lock") (lit< tt) (lit≤ tt) refl, (fixed (codes "m-") (lit< tt) (lit≤ tt) refl, tt))))
@@ -182,7 +193,8 @@ last_two front a b p q = rw (reverse-append front (47 ∷ a ∷ b ∷ [])) (rw q
 member_last : (s : List ℕ) → last_length (member_stem s) ≡ 2
 unfolding member_stem
 member_last s =
-    let more : member_stem s ≡ joined (codes "streams" ∷ s ∷ codes "lock" ∷ []) ++ 47 ∷ codes "m-" = joined_more (codes "streams" ∷ s ∷ codes "lock" ∷ []) (codes "m-") in
+    let more : member_stem s ≡ joined (codes "streams" ∷ s ∷ codes "lock" ∷ []) ++ 47 ∷ codes "m-" =
+    joined_more (codes "streams" ∷ s ∷ codes "lock" ∷ []) (codes "m-") in
     ap last_length more ∙ last_two (joined (codes "streams" ∷ s ∷ codes "lock" ∷ [])) 109 45 refl refl
 
 member_few : (s : List ℕ) → IsName s → length (member_stem s) ≤ 324
@@ -197,7 +209,8 @@ stem_from_sizes : (path : List ℕ) → last_length path ≤ 70 → length path 
 stem_from_sizes path a b = and_from (nat_le (last_length path) 70) (nat_le (length path) 65525) (le-leb (last_length path) 70 a) (le-leb (length path) 65525 b)
 
 member_stem_is : (s : List ℕ) → IsName s → IsStemField (member_stem s)
-member_stem_is s h = ((member_path s h, omega (arith, member_few s h)), stem_from_sizes (member_stem s) (omega (arith, member_last s)) (omega (arith, member_few s h)))
+member_stem_is s h =
+    ((member_path s h, omega (arith, member_few s h)), stem_from_sizes (member_stem s) (omega (arith, member_last s)) (omega (arith, member_few s h)))
 
 pub their_form : PathsHaveTheirForm
 their_form = record { key = key_is; path = path_is; length = path_fits; ledger = ledger_stem_is; member = member_stem_is }

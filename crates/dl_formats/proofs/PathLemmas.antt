@@ -65,7 +65,8 @@ stream_put s t more a b c d same ea eb ec ed =
     let path : c ≡ path_of (Stream s) = ec ∙ ap₂ (λ (x y : List ℕ). x ++ y) front same ∙ sym (stream_spelt s) in
     ed ∙ ap (λ (x : List ℕ). x ++ more) path
 
-pub ledger_put : (n : ℕ) (a b c : List ℕ) (result : Result (List ℕ) NoMemory) → a ≡ [] → b ≡ a ++ codes "/ledgers/L" → c ≡ b ++ digits 10 n → IfOk result (λ p. p ≡ c) → IfOk result (λ p. p ≡ path_of (Ledger n))
+pub ledger_put : (n : ℕ) (a b c : List ℕ) (result : Result (List ℕ) NoMemory) → a ≡ [] → b ≡ a ++ codes "/ledgers/L" → c ≡ b ++ digits 10 n
+    → IfOk result (λ p. p ≡ c) → IfOk result (λ p. p ≡ path_of (Ledger n))
 ledger_put n a b c (Err fault) ea eb ec ok = tt
 ledger_put n a b c (Ok p) ea eb ec ok =
     let front : b ≡ codes "/ledgers/L" = eb ∙ ap (λ (x : List ℕ). x ++ codes "/ledgers/L") ea in

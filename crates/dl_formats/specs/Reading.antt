@@ -5,7 +5,7 @@ use Rattle.dl_types.specs.Places.{place}
 use Rattle.dl_fields.specs.declared.fault.Fault.{Fault}
 use Rattle.dl_fields.specs.declared.fault.Fault.TheVariants as fields
 pub use Rattle.dl_fields.specs.Readers.{Reads}
-use Rattle.dl_fields.specs.Readers.{then_from, map_from, passing, whole_from}
+use Rattle.dl_fields.specs.Readers.{then_at, map_at, passing, whole_from}
 use Rattle.dl_fields.specs.Fields.{number_from}
 use Rattle.dl_formats.specs.declared.allocation.Alloc.{Alloc}
 use Rattle.dl_formats.specs.declared.conf.Conf.{Conf}
@@ -27,7 +27,7 @@ between_from w low high = passing (λ n. nat_le low n && nat_le n high) (number_
 
 -- fields behind the version, which is 1
 abbrev pub versioned_from : {A : Type 0} → (List ℕ → Result (A × List ℕ) Fault) → List ℕ → Result (A × List ℕ) Fault
-versioned_from read = map_from (λ x. x.1) (then_from (between_from w8 1 1) (λ version. read))
+versioned_from read = map_at (λ (version, fields). fields) (then_at (between_from w8 1 1) (λ version. read))
 
 -- a node: a version, fields, and nothing behind them
 abbrev pub node_from : {A : Type 0} → (List ℕ → Result (A × List ℕ) Fault) → List ℕ → Result A Fault
@@ -63,12 +63,12 @@ pub record Decodes {A B : Type 0} (Valid : A → Type 0) (print : A → List ℕ
 
 -- the configuration of four numbers
 abbrev pub conf_of : ℕ × (ℕ × (ℕ × ℕ)) → Conf
-conf_of x = record { b = x.0; e = x.1.0; qw = x.1.1.0; qa = x.1.1.1 }
+conf_of = λ (b, (e, (qw, qa))). record { b = b; e = e; qw = qw; qa = qa }
 
 -- the fields of a configuration
 abbrev pub conf_from : List ℕ → Result (Conf × List ℕ) Fault
-conf_from = map_from conf_of
-    (then_from (between_from w8 1 16) (λ b. then_from (between_from w8 1 b) (λ e. then_from (between_from w8 1 e) (λ qw. between_from w8 1 qw))))
+conf_from = map_at conf_of
+    (then_at (between_from w8 1 16) (λ b. then_at (between_from w8 1 b) (λ e. then_at (between_from w8 1 e) (λ qw. between_from w8 1 qw))))
 
 -- the state of a code
 abbrev pub state_of : ℕ → LedgerState
@@ -76,27 +76,28 @@ state_of code = if code == 1 then Writing else if code == 2 then Recovering else
 
 -- the state of a ledger
 abbrev pub state_from : List ℕ → Result (LedgerState × List ℕ) Fault
-state_from = map_from state_of (between_from w8 1 3)
+state_from = map_at state_of (between_from w8 1 3)
 
 -- the fields of a ledger, one by one
 abbrev pub ledger_of : LedgerState × (ℕ × (ℕ × (ℕ × ℕ))) → LedgerFields
-ledger_of x = record { state = x.0; e = x.1.0; qw = x.1.1.0; qa = x.1.1.1.0; count = x.1.1.1.1 }
+ledger_of = λ (state, (e, (qw, (qa, count)))). record { state = state; e = e; qw = qw; qa = qa; count = count }
 
 -- the fields of a ledger
 abbrev pub ledger_from : List ℕ → Result (LedgerFields × List ℕ) Fault
-ledger_from = map_from ledger_of
-    (then_from state_from (λ state. then_from (between_from w8 1 16) (λ e. then_from (between_from w8 1 e) (λ qw. then_from (between_from w8 1 qw)
+ledger_from = map_at ledger_of
+    (then_at state_from (λ state. then_at (between_from w8 1 16) (λ e. then_at (between_from w8 1 e) (λ qw. then_at (between_from w8 1 qw)
     (λ qa. between_from w64 0 (most_count state))))))
 
 -- a segment in progress
 abbrev pub in_progress_from : List ℕ → Result (SegmentMeta × List ℕ) Fault
-in_progress_from = map_from (λ x. InProgress x.0 x.1) (then_from (between_from w64 1 ten_nines) (λ segment. between_from w64 0 ten_nines))
+in_progress_from = map_at (λ (segment, ledger). InProgress segment ledger)
+    (then_at (between_from w64 1 ten_nines) (λ segment. between_from w64 0 ten_nines))
 
 -- a complete segment
 abbrev pub completed_from : List ℕ → Result (SegmentMeta × List ℕ) Fault
-completed_from = map_from (λ x. Completed x.0 x.1.0 x.1.1.0 x.1.1.1.0 x.1.1.1.1)
-    (then_from (between_from w64 1 ten_nines) (λ segment. then_from (between_from w64 0 ten_nines) (λ ledger. then_from (number_from w64)
-    (λ entries. then_from (number_from w64) (λ rows. between_from w64 0 MAX_TXID)))))
+completed_from = map_at (λ (segment, (ledger, (entries, (rows, last)))). Completed segment ledger entries rows last)
+    (then_at (between_from w64 1 ten_nines) (λ segment. then_at (between_from w64 0 ten_nines) (λ ledger. then_at (number_from w64)
+    (λ entries. then_at (number_from w64) (λ rows. between_from w64 0 MAX_TXID)))))
 
 -- a segment behind its kind, which is 1 while it is in progress, and 2 when it is complete
 abbrev pub kind_from : ℕ → List ℕ → Result (SegmentMeta × List ℕ) Fault
@@ -104,24 +105,24 @@ kind_from kind bytes = if kind == 1 then in_progress_from bytes else completed_f
 
 -- a segment
 abbrev pub segment_from : List ℕ → Result (SegmentMeta × List ℕ) Fault
-segment_from = map_from (λ x. x.1) (then_from (between_from w8 1 2) kind_from)
+segment_from = map_at (λ (kind, segment). segment) (then_at (between_from w8 1 2) kind_from)
 
 -- the greatest segment of two numbers
 abbrev pub maxseq_of : ℕ × ℕ → MaxSeq
-maxseq_of x = record { segment = x.0; last = x.1 }
+maxseq_of = λ (segment, last). record { segment = segment; last = last }
 
 -- the fields of a greatest segment
 abbrev pub maxseq_from : List ℕ → Result (MaxSeq × List ℕ) Fault
-maxseq_from = map_from maxseq_of (then_from (between_from w64 0 ten_nines) (λ segment. between_from w64 0 MAX_TXID))
+maxseq_from = map_at maxseq_of (then_at (between_from w64 0 ten_nines) (λ segment. between_from w64 0 MAX_TXID))
 
 -- the cut of three numbers
 abbrev pub cut_of : ℕ × (ℕ × ℕ) → Cut
-cut_of x = record { point = place x.0 x.1.0 x.1.1 }
+cut_of = λ (segment, (entry, slot)). record { point = place segment entry slot }
 
 -- the fields of a cut
 abbrev pub cut_from : List ℕ → Result (Cut × List ℕ) Fault
-cut_from = map_from cut_of
-    (then_from (between_from w64 1 max_u64) (λ segment. then_from (number_from w64) (λ entry. number_from w32)))
+cut_from = map_at cut_of
+    (then_at (between_from w64 1 max_u64) (λ segment. then_at (number_from w64) (λ entry. number_from w32)))
 
 -- what a flag and a number say of a ledger: without the flag there is none, and the number is 0
 abbrev pub most_allocated : ℕ → ℕ
@@ -129,11 +130,11 @@ most_allocated flag = if flag == 0 then 0 else ten_nines
 
 -- the allocation of a flag and a number
 abbrev pub alloc_of : ℕ × ℕ → Alloc
-alloc_of x = record { ledger = if x.0 == 0 then None else Some x.1 }
+alloc_of = λ (flag, ledger). record { ledger = if flag == 0 then None else Some ledger }
 
 -- the fields of an allocation
 abbrev pub alloc_from : List ℕ → Result (Alloc × List ℕ) Fault
-alloc_from = map_from alloc_of (then_from (between_from w8 0 1) (λ flag. between_from w64 0 (most_allocated flag)))
+alloc_from = map_at alloc_of (then_at (between_from w8 0 1) (λ flag. between_from w64 0 (most_allocated flag)))
 
 -- the value that all bytes of a node spell, or the first fault with its place
 

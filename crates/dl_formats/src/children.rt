@@ -9,7 +9,8 @@ use dl_fields::digits::read_ten_digits;
 
 /// What the name of a child of `segs` says of a segment. A name of another form says nothing, and neither do ten zeros.
 pub fn read_segment(name: &[u8]) -> Option<SegmentName>
-    ensures found { IfSome result (λ segment. IsSegmentName segment × (name.now ≡ segment_name segment)) }
+    ensures found { IfSome result (λ segment.
+        IsSegmentName segment × (name.now ≡ segment_name segment)) }
     ensures only { (segment : SegmentName) → IsSegmentName segment → name.now ≡ segment_name segment
         → result ≡ Some segment }
 {
@@ -32,8 +33,10 @@ pub fn read_segment(name: &[u8]) -> Option<SegmentName>
 
 /// The number of the member that the name of a child of `lock` says. A name of another form says none.
 pub fn read_member(name: &[u8]) -> Option<u64>
-    ensures found { IfSome result (λ member. HasTenDigits member × (name.now ≡ member_name member)) }
-    ensures only { (member : ℕ) → HasTenDigits member → name.now ≡ member_name member → result ≡ Some member }
+    ensures found { IfSome result (λ member.
+        HasTenDigits member × (name.now ≡ member_name member)) }
+    ensures only { (member : ℕ) → HasTenDigits member → name.now ≡ member_name member
+        → result ≡ Some member }
 {
     match name {
         [letter, dash, digits @ ..] => {

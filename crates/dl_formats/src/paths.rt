@@ -31,7 +31,8 @@ fn path_in_stream(alloc: Global, stream: &Name, more: &[u8]) -> Result<Path, NoM
 
 /// A stream's path, with more behind it, and then the ten digits of a number.
 fn numbered_path(alloc: Global, stream: &Name, more: &[u8], number: u64) -> Result<Path, NoMemory>
-    ensures { IfOk result (λ path. path ≡ (path_of (Stream stream.now) ++ more.now) ++ digits 10 number) }
+    ensures { IfOk result (λ path.
+        path ≡ (path_of (Stream stream.now) ++ more.now) ++ digits 10 number) }
 {
     let mut bytes = stream_bytes(alloc, stream, more)?;
     put_digits(&mut bytes, 10, number)?;

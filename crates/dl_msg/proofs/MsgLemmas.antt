@@ -58,91 +58,106 @@ reply_exact = kinded_exact was_run IsReply reply_rest reply_rest_from flag_exact
 abbrev IsMsgOf : MsgKind → Msg → Type 0
 IsMsgOf k m = IsMsg m × (msg_kind m ≡ k)
 
--- the message of this kind
+-- an addition is read exactly
 add_exact : Exact (IsMsgOf kind.Add) msg_rest add_from
-add_exact = made_exact _ _ _ (λ x. msg.Add x.0 x.1.0 x.1.1.0 x.1.1.1) (IsMsgOf kind.Add) msg_rest (also_exact u64_exact (also_exact u64_exact (also_exact u64_exact run32_exact))) (λ x v. ((v, refl), refl)) from
+add_exact = made_exact _ _ _ _ (IsMsgOf kind.Add) msg_rest (also_exact u64_exact (also_exact u64_exact (also_exact u64_exact run32_exact)))
+    (λ x v. ((v, refl), refl)) from
   where
-    from : (m : Msg) → IsMsgOf kind.Add m → (x : ℕ × (ℕ × (ℕ × List ℕ))) × (Fits w64 x.0 × (Fits w64 x.1.0 × (Fits w64 x.1.1.0 × IsCounted w32 x.1.1.1))) × (msg.Add x.0 x.1.0 x.1.1.0 x.1.1.1 ≡ m)
+    from : (m : Msg) → IsMsgOf kind.Add m
+        → (x : ℕ × (ℕ × (ℕ × List ℕ))) × (Fits w64 x.0 × (Fits w64 x.1.0 × (Fits w64 x.1.1.0 × IsCounted w32 x.1.1.1)))
+        × (msg.Add x.0 x.1.0 x.1.1.0 x.1.1.1 ≡ m)
     from (msg.Add ledger entry count bytes) w = ((ledger, (entry, (count, bytes))), w.0, refl)
     from _ w = absurd (let e = w.1 in cc)
 
--- the message of this kind
+-- a copy is read exactly
 copy_exact : Exact (IsMsgOf kind.Copy) msg_rest copy_from
-copy_exact = made_exact _ _ _ (λ x. msg.Copy x.0 x.1.0 x.1.1.0 x.1.1.1.0 x.1.1.1.1) (IsMsgOf kind.Copy) msg_rest (also_exact u32_exact (also_exact u64_exact (also_exact u64_exact (also_exact u64_exact run32_exact)))) (λ x v. ((v, refl), refl)) from
+copy_exact = made_exact _ _ _ _ (IsMsgOf kind.Copy) msg_rest
+    (also_exact u32_exact (also_exact u64_exact (also_exact u64_exact (also_exact u64_exact run32_exact)))) (λ x v. ((v, refl), refl)) from
   where
-    from : (m : Msg) → IsMsgOf kind.Copy m → (x : ℕ × (ℕ × (ℕ × (ℕ × List ℕ)))) × (Fits w32 x.0 × (Fits w64 x.1.0 × (Fits w64 x.1.1.0 × (Fits w64 x.1.1.1.0 × IsCounted w32 x.1.1.1.1)))) × (msg.Copy x.0 x.1.0 x.1.1.0 x.1.1.1.0 x.1.1.1.1 ≡ m)
+    from : (m : Msg) → IsMsgOf kind.Copy m
+        → (x : ℕ × (ℕ × (ℕ × (ℕ × List ℕ)))) × (Fits w32 x.0 × (Fits w64 x.1.0 × (Fits w64 x.1.1.0 × (Fits w64 x.1.1.1.0 × IsCounted w32 x.1.1.1.1))))
+        × (msg.Copy x.0 x.1.0 x.1.1.0 x.1.1.1.0 x.1.1.1.1 ≡ m)
     from (msg.Copy tag ledger entry count bytes) w = ((tag, (ledger, (entry, (count, bytes)))), w.0, refl)
     from _ w = absurd (let e = w.1 in cc)
 
--- the message of this kind
+-- a question for the confirmed count is read exactly
 ask_lac_exact : Exact (IsMsgOf kind.AskLac) msg_rest ask_lac_from
-ask_lac_exact = made_exact _ _ _ (λ x. msg.AskLac x.0 x.1.0 x.1.1) (IsMsgOf kind.AskLac) msg_rest (also_exact u32_exact (also_exact u64_exact flag_exact)) (λ x v. (((v.0, v.1.0), refl), refl)) from
+ask_lac_exact = made_exact _ _ _ _ (IsMsgOf kind.AskLac) msg_rest (also_exact u32_exact (also_exact u64_exact flag_exact))
+    (λ x v. (((v.0, v.1.0), refl), refl)) from
   where
     from : (m : Msg) → IsMsgOf kind.AskLac m → (x : ℕ × (ℕ × Bool)) × (Fits w32 x.0 × (Fits w64 x.1.0 × Unit {0})) × (msg.AskLac x.0 x.1.0 x.1.1 ≡ m)
     from (msg.AskLac tag ledger fence) w = ((tag, (ledger, fence)), (w.0.0, (w.0.1, tt)), refl)
     from _ w = absurd (let e = w.1 in cc)
 
--- the message of this kind
+-- a question for an entry is read exactly
 ask_entry_exact : Exact (IsMsgOf kind.AskEntry) msg_rest ask_entry_from
-ask_entry_exact = made_exact _ _ _ (λ x. msg.AskEntry x.0 x.1.0 x.1.1) (IsMsgOf kind.AskEntry) msg_rest (also_exact u32_exact (also_exact u64_exact u64_exact)) (λ x v. ((v, refl), refl)) from
+ask_entry_exact = made_exact _ _ _ _ (IsMsgOf kind.AskEntry) msg_rest (also_exact u32_exact (also_exact u64_exact u64_exact)) (λ x v. ((v, refl), refl)) from
   where
     from : (m : Msg) → IsMsgOf kind.AskEntry m → (x : ℕ × (ℕ × ℕ)) × (Fits w32 x.0 × (Fits w64 x.1.0 × Fits w64 x.1.1)) × (msg.AskEntry x.0 x.1.0 x.1.1 ≡ m)
     from (msg.AskEntry tag ledger entry) w = ((tag, (ledger, entry)), w.0, refl)
     from _ w = absurd (let e = w.1 in cc)
 
--- the message of this kind
+-- an entry that is stored is read exactly
 add_ok_exact : Exact (IsMsgOf kind.AddOk) msg_rest add_ok_from
-add_ok_exact = made_exact _ _ _ (λ x. msg.AddOk x.0 x.1) (IsMsgOf kind.AddOk) msg_rest (also_exact u64_exact u64_exact) (λ x v. ((v, refl), refl)) from
+add_ok_exact = made_exact _ _ _ _ (IsMsgOf kind.AddOk) msg_rest (also_exact u64_exact u64_exact) (λ x v. ((v, refl), refl)) from
   where
     from : (m : Msg) → IsMsgOf kind.AddOk m → (x : ℕ × ℕ) × (Fits w64 x.0 × Fits w64 x.1) × (msg.AddOk x.0 x.1 ≡ m)
     from (msg.AddOk ledger entry) w = ((ledger, entry), w.0, refl)
     from _ w = absurd (let e = w.1 in cc)
 
--- the message of this kind
+-- an entry of a fenced ledger is read exactly
 add_fenced_exact : Exact (IsMsgOf kind.AddFenced) msg_rest add_fenced_from
-add_fenced_exact = made_exact _ _ _ (λ x. msg.AddFenced x.0 x.1) (IsMsgOf kind.AddFenced) msg_rest (also_exact u64_exact u64_exact) (λ x v. ((v, refl), refl)) from
+add_fenced_exact = made_exact _ _ _ _ (IsMsgOf kind.AddFenced) msg_rest (also_exact u64_exact u64_exact) (λ x v. ((v, refl), refl)) from
   where
     from : (m : Msg) → IsMsgOf kind.AddFenced m → (x : ℕ × ℕ) × (Fits w64 x.0 × Fits w64 x.1) × (msg.AddFenced x.0 x.1 ≡ m)
     from (msg.AddFenced ledger entry) w = ((ledger, entry), w.0, refl)
     from _ w = absurd (let e = w.1 in cc)
 
--- the message of this kind
+-- a want of room is read exactly
 full_exact : Exact (IsMsgOf kind.Full) msg_rest full_from
-full_exact = made_exact _ _ _ (λ x. msg.Full x.0 x.1.0 x.1.1) (IsMsgOf kind.Full) msg_rest (also_exact resource_exact (also_exact u64_exact u64_exact)) (λ x v. (((v.1.0, v.1.1), refl), refl)) from
+full_exact = made_exact _ _ _ _ (IsMsgOf kind.Full) msg_rest (also_exact resource_exact (also_exact u64_exact u64_exact))
+    (λ x v. (((v.1.0, v.1.1), refl), refl)) from
   where
     from : (m : Msg) → IsMsgOf kind.Full m → (x : Resource × (ℕ × ℕ)) × (Unit {0} × (Fits w64 x.1.0 × Fits w64 x.1.1)) × (msg.Full x.0 x.1.0 x.1.1 ≡ m)
     from (msg.Full what ledger entry) w = ((what, (ledger, entry)), (tt, (w.0.0, w.0.1)), refl)
     from _ w = absurd (let e = w.1 in cc)
 
--- the message of this kind
+-- a copy that is stored is read exactly
 copy_ok_exact : Exact (IsMsgOf kind.CopyOk) msg_rest copy_ok_from
-copy_ok_exact = made_exact _ _ _ (λ x. msg.CopyOk x.0 x.1.0 x.1.1) (IsMsgOf kind.CopyOk) msg_rest (also_exact u32_exact (also_exact u64_exact u64_exact)) (λ x v. ((v, refl), refl)) from
+copy_ok_exact = made_exact _ _ _ _ (IsMsgOf kind.CopyOk) msg_rest (also_exact u32_exact (also_exact u64_exact u64_exact)) (λ x v. ((v, refl), refl)) from
   where
     from : (m : Msg) → IsMsgOf kind.CopyOk m → (x : ℕ × (ℕ × ℕ)) × (Fits w32 x.0 × (Fits w64 x.1.0 × Fits w64 x.1.1)) × (msg.CopyOk x.0 x.1.0 x.1.1 ≡ m)
     from (msg.CopyOk tag ledger entry) w = ((tag, (ledger, entry)), w.0, refl)
     from _ w = absurd (let e = w.1 in cc)
 
--- the message of this kind
+-- a confirmed count is read exactly
 lac_is_exact : Exact (IsMsgOf kind.LacIs) msg_rest lac_is_from
-lac_is_exact = made_exact _ _ _ (λ x. msg.LacIs x.0 x.1.0 x.1.1.0 x.1.1.1) (IsMsgOf kind.LacIs) msg_rest (also_exact u32_exact (also_exact u64_exact (also_exact flag_exact u64_exact))) (λ x v. (((v.0, (v.1.0, v.1.1.1)), refl), refl)) from
+lac_is_exact = made_exact _ _ _ _ (IsMsgOf kind.LacIs) msg_rest (also_exact u32_exact (also_exact u64_exact (also_exact flag_exact u64_exact)))
+    (λ x v. (((v.0, (v.1.0, v.1.1.1)), refl), refl)) from
   where
-    from : (m : Msg) → IsMsgOf kind.LacIs m → (x : ℕ × (ℕ × (Bool × ℕ))) × (Fits w32 x.0 × (Fits w64 x.1.0 × (Unit {0} × Fits w64 x.1.1.1))) × (msg.LacIs x.0 x.1.0 x.1.1.0 x.1.1.1 ≡ m)
+    from : (m : Msg) → IsMsgOf kind.LacIs m
+        → (x : ℕ × (ℕ × (Bool × ℕ))) × (Fits w32 x.0 × (Fits w64 x.1.0 × (Unit {0} × Fits w64 x.1.1.1))) × (msg.LacIs x.0 x.1.0 x.1.1.0 x.1.1.1 ≡ m)
     from (msg.LacIs tag ledger fenced count) w = ((tag, (ledger, (fenced, count))), (w.0.0, (w.0.1.0, (tt, w.0.1.1))), refl)
     from _ w = absurd (let e = w.1 in cc)
 
--- the message of this kind
+-- an entry is read exactly
 entry_is_exact : Exact (IsMsgOf kind.EntryIs) msg_rest entry_is_from
-entry_is_exact = made_exact _ _ _ (λ x. msg.EntryIs x.0 x.1.0 x.1.1.0 x.1.1.1) (IsMsgOf kind.EntryIs) msg_rest (also_exact u32_exact (also_exact u64_exact (also_exact u64_exact run32_exact))) (λ x v. ((v, refl), refl)) from
+entry_is_exact = made_exact _ _ _ _ (IsMsgOf kind.EntryIs) msg_rest (also_exact u32_exact (also_exact u64_exact (also_exact u64_exact run32_exact)))
+    (λ x v. ((v, refl), refl)) from
   where
-    from : (m : Msg) → IsMsgOf kind.EntryIs m → (x : ℕ × (ℕ × (ℕ × List ℕ))) × (Fits w32 x.0 × (Fits w64 x.1.0 × (Fits w64 x.1.1.0 × IsCounted w32 x.1.1.1))) × (msg.EntryIs x.0 x.1.0 x.1.1.0 x.1.1.1 ≡ m)
+    from : (m : Msg) → IsMsgOf kind.EntryIs m
+        → (x : ℕ × (ℕ × (ℕ × List ℕ))) × (Fits w32 x.0 × (Fits w64 x.1.0 × (Fits w64 x.1.1.0 × IsCounted w32 x.1.1.1)))
+        × (msg.EntryIs x.0 x.1.0 x.1.1.0 x.1.1.1 ≡ m)
     from (msg.EntryIs tag ledger entry bytes) w = ((tag, (ledger, (entry, bytes))), w.0, refl)
     from _ w = absurd (let e = w.1 in cc)
 
--- the message of this kind
+-- a denial of an entry is read exactly
 no_entry_exact : Exact (IsMsgOf kind.NoEntry) msg_rest no_entry_from
-no_entry_exact = made_exact _ _ _ (λ x. msg.NoEntry x.0 x.1.0 x.1.1.0 x.1.1.1) (IsMsgOf kind.NoEntry) msg_rest (also_exact u32_exact (also_exact u64_exact (also_exact u64_exact flag_exact))) (λ x v. (((v.0, (v.1.0, v.1.1.0)), refl), refl)) from
+no_entry_exact = made_exact _ _ _ _ (IsMsgOf kind.NoEntry) msg_rest (also_exact u32_exact (also_exact u64_exact (also_exact u64_exact flag_exact)))
+    (λ x v. (((v.0, (v.1.0, v.1.1.0)), refl), refl)) from
   where
-    from : (m : Msg) → IsMsgOf kind.NoEntry m → (x : ℕ × (ℕ × (ℕ × Bool))) × (Fits w32 x.0 × (Fits w64 x.1.0 × (Fits w64 x.1.1.0 × Unit {0}))) × (msg.NoEntry x.0 x.1.0 x.1.1.0 x.1.1.1 ≡ m)
+    from : (m : Msg) → IsMsgOf kind.NoEntry m
+        → (x : ℕ × (ℕ × (ℕ × Bool))) × (Fits w32 x.0 × (Fits w64 x.1.0 × (Fits w64 x.1.1.0 × Unit {0}))) × (msg.NoEntry x.0 x.1.0 x.1.1.0 x.1.1.1 ≡ m)
     from (msg.NoEntry tag ledger entry fenced) w = ((tag, (ledger, (entry, fenced))), (w.0.0, (w.0.1.0, (w.0.1.1, tt))), refl)
     from _ w = absurd (let e = w.1 in cc)
 
@@ -150,19 +165,22 @@ no_entry_exact = made_exact _ _ _ (λ x. msg.NoEntry x.0 x.1.0 x.1.1.0 x.1.1.1) 
 any_request_exact : Exact IsRequest request_bytes (request_from (allows All))
 any_request_exact = exact_as (request_exact (allows All)) (λ r v. v.0) (λ r w. (w, all_allowed r))
 
--- the message of this kind
+-- a request of a session is read exactly
 meta_ask_exact : Exact (IsMsgOf kind.MetaAsk) msg_rest meta_ask_from
-meta_ask_exact = made_exact _ _ _ (λ x. msg.MetaAsk x.0 x.1.0 x.1.1) (IsMsgOf kind.MetaAsk) msg_rest (also_exact u64_exact (also_exact u32_exact any_request_exact)) (λ x v. ((v, refl), refl)) from
+meta_ask_exact = made_exact _ _ _ _ (IsMsgOf kind.MetaAsk) msg_rest (also_exact u64_exact (also_exact u32_exact any_request_exact))
+    (λ x v. ((v, refl), refl)) from
   where
     from : (m : Msg) → IsMsgOf kind.MetaAsk m → (x : ℕ × (ℕ × MetaOp)) × (Fits w64 x.0 × (Fits w32 x.1.0 × IsRequest x.1.1)) × (msg.MetaAsk x.0 x.1.0 x.1.1 ≡ m)
     from (msg.MetaAsk session number op) w = ((session, (number, op)), w.0, refl)
     from _ w = absurd (let e = w.1 in cc)
 
--- the message of this kind
+-- a reply to a session is read exactly
 meta_reply_exact : Exact (IsMsgOf kind.MetaReply) msg_rest meta_reply_from
-meta_reply_exact = made_exact _ _ _ (λ x. msg.MetaReply x.0 x.1.0 x.1.1) (IsMsgOf kind.MetaReply) msg_rest (also_exact u64_exact (also_exact u32_exact reply_exact)) (λ x v. ((v, refl), refl)) from
+meta_reply_exact = made_exact _ _ _ _ (IsMsgOf kind.MetaReply) msg_rest (also_exact u64_exact (also_exact u32_exact reply_exact))
+    (λ x v. ((v, refl), refl)) from
   where
-    from : (m : Msg) → IsMsgOf kind.MetaReply m → (x : ℕ × (ℕ × MetaReply)) × (Fits w64 x.0 × (Fits w32 x.1.0 × IsReply x.1.1)) × (msg.MetaReply x.0 x.1.0 x.1.1 ≡ m)
+    from : (m : Msg) → IsMsgOf kind.MetaReply m
+        → (x : ℕ × (ℕ × MetaReply)) × (Fits w64 x.0 × (Fits w32 x.1.0 × IsReply x.1.1)) × (msg.MetaReply x.0 x.1.0 x.1.1 ≡ m)
     from (msg.MetaReply session number r) w = ((session, (number, r)), w.0, refl)
     from _ w = absurd (let e = w.1 in cc)
 

@@ -27,8 +27,7 @@ msg_kinds =
     kind.Add ∷ kind.Copy ∷ kind.AskLac ∷ kind.AskEntry ∷ kind.AddOk ∷ kind.AddFenced ∷ kind.Full
     ∷ kind.CopyOk ∷ kind.LacIs ∷ kind.EntryIs ∷ kind.NoEntry ∷ kind.MetaAsk ∷ kind.MetaReply ∷ []
 
--- what a bookie resources
-
+-- the byte of what a bookie wants for
 abbrev pub resource_code : Resource → ℕ
 resource_code resource.Pool = 1
 resource_code resource.Index = 2

@@ -3,7 +3,7 @@ use Rattle.std.specs.Prelude.{◌≡◌, ℕ, ◌-◌, Bool, true, false, List, 
 use Rattle.std.specs.Int.{w32, w64}
 use Rattle.dl_fields.specs.declared.fault.Fault.{Fault}
 use Rattle.dl_fields.specs.declared.fault.Fault.TheVariants as fields
-use Rattle.dl_fields.specs.Readers.{then_from, map_from, nothing_from, whole_from}
+use Rattle.dl_fields.specs.Readers.{then_at, map_at, nothing_from, whole_from}
 use Rattle.dl_fields.specs.Fields.{number_from, counted_from}
 use Rattle.dl_fields.specs.Codes.{code_from}
 use Rattle.dl_msg.specs.declared.fault.MsgFault.{MsgFault}
@@ -24,77 +24,81 @@ use Rattle.dl_msg.specs.Messages.{msg_bytes, IsMsg}
 
 -- an addition
 abbrev pub add_from : List ℕ → Result (Msg × List ℕ) Fault
-add_from = map_from (λ x. msg.Add x.0 x.1.0 x.1.1.0 x.1.1.1)
-    (then_from (number_from w64) (λ l. then_from (number_from w64) (λ e. then_from (number_from w64) (λ n. counted_from w32))))
+add_from = map_at (λ (ledger, (entry, (count, bytes))). msg.Add ledger entry count bytes)
+    (then_at (number_from w64) (λ ledger. then_at (number_from w64) (λ entry. then_at (number_from w64) (λ count. counted_from w32))))
 
 -- a copy
 abbrev pub copy_from : List ℕ → Result (Msg × List ℕ) Fault
-copy_from = map_from (λ x. msg.Copy x.0 x.1.0 x.1.1.0 x.1.1.1.0 x.1.1.1.1)
-    (then_from (number_from w32) (λ t. then_from (number_from w64) (λ l. then_from (number_from w64) (λ e. then_from (number_from w64) (λ n. counted_from w32)))))
+copy_from = map_at (λ (tag, (ledger, (entry, (count, bytes)))). msg.Copy tag ledger entry count bytes)
+    (then_at (number_from w32) (λ tag. then_at (number_from w64) (λ ledger. then_at (number_from w64) (λ entry. then_at (number_from w64) (λ count. counted_from w32)))))
 
 -- a question for the confirmed count
 abbrev pub ask_lac_from : List ℕ → Result (Msg × List ℕ) Fault
-ask_lac_from = map_from (λ x. msg.AskLac x.0 x.1.0 x.1.1) (then_from (number_from w32) (λ t. then_from (number_from w64) (λ l. flag_from)))
+ask_lac_from = map_at (λ (tag, (ledger, fence)). msg.AskLac tag ledger fence)
+    (then_at (number_from w32) (λ tag. then_at (number_from w64) (λ ledger. flag_from)))
 
 -- a ledger and an entry
 abbrev pub place_from : List ℕ → Result ((ℕ × ℕ) × List ℕ) Fault
-place_from = then_from (number_from w64) (λ l. number_from w64)
+place_from = then_at (number_from w64) (λ ledger. number_from w64)
 
 -- a tag, a ledger and an entry
 abbrev pub tagged_from : List ℕ → Result ((ℕ × (ℕ × ℕ)) × List ℕ) Fault
-tagged_from = then_from (number_from w32) (λ t. place_from)
+tagged_from = then_at (number_from w32) (λ tag. place_from)
 
 -- a question for an entry
 abbrev pub ask_entry_from : List ℕ → Result (Msg × List ℕ) Fault
-ask_entry_from = map_from (λ x. msg.AskEntry x.0 x.1.0 x.1.1) tagged_from
+ask_entry_from = map_at (λ (tag, (ledger, entry)). msg.AskEntry tag ledger entry) tagged_from
 
 -- an entry that is stored
 abbrev pub add_ok_from : List ℕ → Result (Msg × List ℕ) Fault
-add_ok_from = map_from (λ x. msg.AddOk x.0 x.1) place_from
+add_ok_from = map_at (λ (ledger, entry). msg.AddOk ledger entry) place_from
 
 -- an entry that is not stored, since the ledger is fenced
 abbrev pub add_fenced_from : List ℕ → Result (Msg × List ℕ) Fault
-add_fenced_from = map_from (λ x. msg.AddFenced x.0 x.1) place_from
+add_fenced_from = map_at (λ (ledger, entry). msg.AddFenced ledger entry) place_from
 
 -- a want of room
 abbrev pub full_from : List ℕ → Result (Msg × List ℕ) Fault
-full_from = map_from (λ x. msg.Full x.0 x.1.0 x.1.1) (then_from (code_from resource_code resources) (λ what. place_from))
+full_from = map_at (λ (what, (ledger, entry)). msg.Full what ledger entry)
+    (then_at (code_from resource_code resources) (λ what. place_from))
 
 -- a copy that is stored
 abbrev pub copy_ok_from : List ℕ → Result (Msg × List ℕ) Fault
-copy_ok_from = map_from (λ x. msg.CopyOk x.0 x.1.0 x.1.1) tagged_from
+copy_ok_from = map_at (λ (tag, (ledger, entry)). msg.CopyOk tag ledger entry) tagged_from
 
 -- a confirmed count
 abbrev pub lac_is_from : List ℕ → Result (Msg × List ℕ) Fault
-lac_is_from = map_from (λ x. msg.LacIs x.0 x.1.0 x.1.1.0 x.1.1.1)
-    (then_from (number_from w32) (λ t. then_from (number_from w64) (λ l. then_from flag_from (λ f. number_from w64))))
+lac_is_from = map_at (λ (tag, (ledger, (fenced, count))). msg.LacIs tag ledger fenced count)
+    (then_at (number_from w32) (λ tag. then_at (number_from w64) (λ ledger. then_at flag_from (λ fenced. number_from w64))))
 
 -- an entry
 abbrev pub entry_is_from : List ℕ → Result (Msg × List ℕ) Fault
-entry_is_from = map_from (λ x. msg.EntryIs x.0 x.1.0 x.1.1.0 x.1.1.1)
-    (then_from (number_from w32) (λ t. then_from (number_from w64) (λ l. then_from (number_from w64) (λ e. counted_from w32))))
+entry_is_from = map_at (λ (tag, (ledger, (entry, bytes))). msg.EntryIs tag ledger entry bytes)
+    (then_at (number_from w32) (λ tag. then_at (number_from w64) (λ ledger. then_at (number_from w64) (λ entry. counted_from w32))))
 
 -- a denial of an entry
 abbrev pub no_entry_from : List ℕ → Result (Msg × List ℕ) Fault
-no_entry_from = map_from (λ x. msg.NoEntry x.0 x.1.0 x.1.1.0 x.1.1.1)
-    (then_from (number_from w32) (λ t. then_from (number_from w64) (λ l. then_from (number_from w64) (λ e. flag_from))))
+no_entry_from = map_at (λ (tag, (ledger, (entry, fenced))). msg.NoEntry tag ledger entry fenced)
+    (then_at (number_from w32) (λ tag. then_at (number_from w64) (λ ledger. then_at (number_from w64) (λ entry. flag_from))))
 
 -- a request of a session
 abbrev pub meta_ask_from : List ℕ → Result (Msg × List ℕ) Fault
-meta_ask_from = map_from (λ x. msg.MetaAsk x.0 x.1.0 x.1.1) (then_from (number_from w64) (λ s. then_from (number_from w32) (λ n. request_from (allows All))))
+meta_ask_from = map_at (λ (session, (number, request)). msg.MetaAsk session number request)
+    (then_at (number_from w64) (λ session. then_at (number_from w32) (λ number. request_from (allows All))))
 
 -- a reply behind the flag that says whether the request was run
 abbrev pub reply_rest_from : Bool → List ℕ → Result (MetaReply × List ℕ) Fault
 reply_rest_from false = nothing_from reply.Expired
-reply_rest_from true = map_from reply.Answer outcome_from
+reply_rest_from true = map_at reply.Answer outcome_from
 
 -- a reply to a request
 abbrev pub reply_from : List ℕ → Result (MetaReply × List ℕ) Fault
-reply_from = map_from (λ x. x.1) (then_from flag_from reply_rest_from)
+reply_from = map_at (λ (run, reply). reply) (then_at flag_from reply_rest_from)
 
 -- a reply to a session
 abbrev pub meta_reply_from : List ℕ → Result (Msg × List ℕ) Fault
-meta_reply_from = map_from (λ x. msg.MetaReply x.0 x.1.0 x.1.1) (then_from (number_from w64) (λ s. then_from (number_from w32) (λ n. reply_from)))
+meta_reply_from = map_at (λ (session, (number, reply)). msg.MetaReply session number reply)
+    (then_at (number_from w64) (λ session. then_at (number_from w32) (λ number. reply_from)))
 
 -- a message behind its kind
 abbrev pub msg_rest_from : MsgKind → List ℕ → Result (Msg × List ℕ) Fault
@@ -114,7 +118,7 @@ msg_rest_from kind.MetaReply = meta_reply_from
 
 -- a message
 abbrev pub msg_from : List ℕ → Result (Msg × List ℕ) Fault
-msg_from = map_from (λ x. x.1) (then_from (code_from msg_code msg_kinds) msg_rest_from)
+msg_from = map_at (λ (kind, msg). msg) (then_at (code_from msg_code msg_kinds) msg_rest_from)
 
 -- a fault with its place among so many bytes
 abbrev pub fault_at : ℕ → Fault → MsgFault

@@ -80,7 +80,8 @@ fn put_lac(
 
 /// Adds the numbers of a session and of its request.
 fn put_asker(alloc: Global, out: &mut Vec<u8>, session: u64, number: u32) -> Result<(), NoMemory>
-    ensures { OnOk result (out.new.items ≡ out.old.items ++ (field w64 session ++ field w32 number)) }
+    ensures { OnOk result (out.new.items
+        ≡ out.old.items ++ (field w64 session ++ field w32 number)) }
 {
     put_u64(alloc, out, session)?;
     put_u32(alloc, out, number)

@@ -2,72 +2,58 @@ mod rows;
 
 use crate::decode::decode;
 use crate::encode::encode;
-use crate::fault::MsgFault;
 use crate::size::size;
+use rows::rows;
+use std::alloc::Global;
 use std::test::Fail;
 
-fn row_sizes() -> &'static [u16] {
-    &rows::SIZES
-}
-
-fn row_bytes() -> &'static [u8] {
-    &rows::BYTES
-}
-
-fn form_sizes() -> &'static [u16] {
-    &rows::FORM_SIZES
-}
-
-fn form_bytes() -> &'static [u8] {
-    &rows::FORM_BYTES
-}
-
-fn forms() -> &'static [u16] {
-    &rows::FORMS
-}
-
-/// What `decode` finds, as the tables say it.
-fn outcome(rt: &HostRuntime, bytes: &[u8]) -> usize {
-    match decode(rt.alloc(), bytes) {
-        Ok(_) => 0,
-        Err(MsgFault::NoMemory) => 1,
-        Err(MsgFault::Short { at }) => at.saturating_add(1000),
-        Err(MsgFault::BadKind { at }) => at.saturating_add(2000),
-        Err(MsgFault::Long { at }) => at.saturating_add(3000),
+/// The number of a digit in hex.
+fn digit(byte: u8) -> u8 {
+    if byte < b'a' {
+        byte.wrapping_sub(b'0')
+    } else {
+        byte.wrapping_sub(b'a' - 10)
     }
 }
 
-/// Whether the bytes are read as a message that is written as them, and has their size.
-fn is_spelt(rt: &HostRuntime, bytes: &[u8]) -> Result<bool, Fail> {
-    match decode(rt.alloc(), bytes) {
-        Ok(msg) => {
-            let again = encode(rt.alloc(), &msg)?;
-            Ok(again.as_slice() == bytes && size(&msg) == bytes.len() as u64)
+/// The bytes of a text in hex.
+fn bytes_of(alloc: Global, hex: &str) -> Result<Vec<u8>, Fail> {
+    let mut bytes = Vec::new(alloc);
+    for pair in hex.as_bytes().chunks(2) {
+        if let [high, low] = pair {
+            bytes.push(digit(*high).wrapping_mul(16).wrapping_add(digit(*low)))?;
         }
-        Err(_) => Ok(false),
     }
+    Ok(bytes)
+}
+
+/// What is found in the bytes: a message that is written as them and has their size, or a fault and its place.
+fn found(alloc: Global, bytes: &[u8]) -> Result<String, Fail> {
+    let mut out = String::new(alloc);
+    match decode(alloc, bytes) {
+        Ok(msg) => {
+            let again = encode(alloc, &msg)?;
+            if again.as_slice() == bytes && size(&msg) == bytes.len() as u64 {
+                out.push_str("message")?;
+            }
+        }
+        Err(fault) => write!(out, "{fault}")?,
+    }
+    Ok(out)
 }
 
 #[test]
-fn reads_and_writes_each_kind(rt: HostRuntime) -> Result<(), Fail> {
-    let mut at = 0usize;
-    for len in row_sizes() {
-        let end = at.saturating_add(usize::from(*len));
-        let row = row_bytes().get(at..end).ok_or("no row")?;
-        assert!(rt; is_spelt(&rt, row)?, "row at {at}");
-        at = end;
+fn each_row_is_found(rt: HostRuntime) -> Result<(), Fail> {
+    let alloc = rt.alloc();
+    let mut count = 0u32;
+    for row in rows().lines() {
+        let Some((hex, want)) = row.split_once(" => ") else {
+            continue;
+        };
+        let bytes = bytes_of(alloc, hex)?;
+        assert_eq!(rt; found(alloc, &bytes)?.as_str(), want, "at {hex}");
+        count = count.saturating_add(1);
     }
-    Ok(())
-}
-
-#[test]
-fn finds_what_has_no_form(rt: HostRuntime) -> Result<(), Fail> {
-    let mut at = 0usize;
-    for (len, expected) in form_sizes().iter().zip(forms()) {
-        let end = at.saturating_add(usize::from(*len));
-        let row = form_bytes().get(at..end).ok_or("no row")?;
-        assert_eq!(rt; outcome(&rt, row), usize::from(*expected), "row at {at}");
-        at = end;
-    }
+    assert_eq!(rt; count, 58);
     Ok(())
 }

@@ -25,14 +25,21 @@ was_read (Err fault) e = absurd cc
 
 flat_map-push : (xs : List Stored) (r : Stored) → flat_map record_bytes (xs ++ r ∷ []) ≡ flat_map record_bytes xs ++ record_bytes r
 flat_map-push [] r = append-nil (record_bytes r)
-flat_map-push (x ∷ xs) r = ap (λ (l : List ℕ). record_bytes x ++ l) (flat_map-push xs r) ∙ sym (append_assoc (record_bytes x) (flat_map record_bytes xs) (record_bytes r))
+flat_map-push (x ∷ xs) r =
+    ap (λ (l : List ℕ). record_bytes x ++ l) (flat_map-push xs r) ∙ sym (append_assoc (record_bytes x) (flat_map record_bytes xs) (record_bytes r))
 
 length-rows_from-push : (slot : ℕ) (xs : List Stored) (r : Stored) → length (rows_from slot (xs ++ r ∷ [])) ≡ length (rows_from slot xs) + rows_in r
 length-rows_from-push slot [] r =
     omega (arith, length-append (numbered slot (txid_of r) (payloads_of r)) [], length-numbered slot (txid_of r) (payloads_of r))
 length-rows_from-push slot (x ∷ xs) r =
     let front = numbered slot (txid_of x) (payloads_of x) in
-    omega (arith, length-rows_from-push (slot + rows_in x) xs r, length-append front (rows_from (slot + rows_in x) (xs ++ r ∷ [])), length-append front (rows_from (slot + rows_in x) xs))
+    omega (
+      arith,
+      length-rows_from-push (slot + rows_in x) xs r,
+      length-append front
+          (rows_from (slot + rows_in x) (xs ++ r ∷ [])),
+      length-append front (rows_from (slot + rows_in x) xs),
+    )
 
 -- ---- order
 
@@ -51,7 +58,8 @@ unfolding last_after
 last_after-none [] = refl
 last_after-none (r ∷ rs) = last_after-is None r rs
 
-records_push : (before : Option Stored) (xs : List Stored) (r : Stored) → AreRecords false before xs → IsRecord r → IsAllowed false r → Follows (last_after before xs) r → AreRecords false before (xs ++ r ∷ [])
+records_push : (before : Option Stored) (xs : List Stored) (r : Stored) → AreRecords false before xs → IsRecord r → IsAllowed false r
+    → Follows (last_after before xs) r → AreRecords false before (xs ++ r ∷ [])
 unfolding last_after
 records_push before [] r are is allowed follows = (is, (allowed, (follows, tt)))
 records_push before (x ∷ xs) r are is allowed follows = (are.0, (are.1.0, (are.1.1.0, records_push (Some x) xs r are.1.1.1 is allowed follows)))
@@ -86,15 +94,18 @@ holds count row_total bytes b =
 -- the records that it holds
 are_in : (count row_total : ℕ) (bytes : List ℕ) → IsBytes bytes → IsBuilding count row_total bytes → AreRecords false None (parts_in count bytes)
 are_in count row_total bytes fits b =
-    (records_found count false None (drop 8 bytes) 0 (parts_in count bytes) (IsBytes-drop 8 bytes fits) (was_read (records_at count false None (drop 8 bytes) 0) b.reads)).are
+    (records_found count false None (drop 8 bytes) 0 (parts_in count bytes) (IsBytes-drop 8 bytes fits)
+    (was_read (records_at count false None (drop 8 bytes) 0) b.reads)).are
 
 pub record Builds (count row_total : ℕ) (bytes : List ℕ) (parts : List Stored) : Type 0 where
   pub building : IsBuilding count row_total bytes
   pub same : parts_in count bytes ≡ parts
 
-builds : (count row_total : ℕ) (bytes : List ℕ) (parts : List Stored) → 8 ≤ length bytes → length bytes ≤ ENTRY_MAX → AreRecords false None parts → drop 8 bytes ≡ flat_map record_bytes parts → length parts ≡ count → row_total ≡ row_count parts → Builds count row_total bytes parts
+builds : (count row_total : ℕ) (bytes : List ℕ) (parts : List Stored) → 8 ≤ length bytes → length bytes ≤ ENTRY_MAX → AreRecords false None parts
+    → drop 8 bytes ≡ flat_map record_bytes parts → length parts ≡ count → row_total ≡ row_count parts → Builds count row_total bytes parts
 builds count row_total bytes parts room size are stands counted rows =
-    let read : records_at count false None (drop 8 bytes) 0 ≡ Ok parts = ap (λ (n : ℕ). records_at n false None (drop 8 bytes) 0) (sym counted) ∙ records_again parts false None (drop 8 bytes) 0 are (omega arith) stands in
+    let read : records_at count false None (drop 8 bytes) 0 ≡ Ok parts =
+    ap (λ (n : ℕ). records_at n false None (drop 8 bytes) 0) (sym counted) ∙ records_again parts false None (drop 8 bytes) 0 are (omega arith) stands in
     let same : parts_in count bytes ≡ parts = ap or_nothing read in
     record {
       building = record {
@@ -108,12 +119,14 @@ builds count row_total bytes parts room size are stands counted rows =
       same = same;
     }
 
-pub building_push : (count row_total : ℕ) (bytes new : List ℕ) (r : Stored) → IsBytes bytes → IsBuilding count row_total bytes → IsAllowed false r → MayFollow (parts_in count bytes) r → new ≡ bytes ++ record_bytes r
+pub building_push : (count row_total : ℕ) (bytes new : List ℕ) (r : Stored) → IsBytes bytes → IsBuilding count row_total bytes → IsAllowed false r
+    → MayFollow (parts_in count bytes) r → new ≡ bytes ++ record_bytes r
     → Builds (count + 1) (row_total + rows_in r) new (parts_in count bytes ++ r ∷ [])
 building_push count row_total bytes new r fits b allowed may e =
     let parts = parts_in count bytes in
     let h = holds count row_total bytes b in
-    let len : length new ≡ length bytes + (20 + length (payload_bytes r)) = omega (arith, ap length e, length-append bytes (record_bytes r), length-record_bytes r) in
+    let len : length new ≡ length bytes + (20 + length (payload_bytes r)) =
+    omega (arith, ap length e, length-append bytes (record_bytes r), length-record_bytes r) in
     let follows = subst (λ (o : Option Stored). Follows o r) (sym (last_after-none parts)) may.follows in
     builds (count + 1) (row_total + rows_in r) new (parts ++ r ∷ [])
     (omega (arith, len, b.room))
@@ -124,7 +137,8 @@ building_push count row_total bytes new r fits b allowed may e =
     (omega (arith, length-rows_from-push 0 parts r, b.rows))
 
 -- only the room for the header was written to
-pub building_same : (count row_total : ℕ) (bytes new : List ℕ) → IsBuilding count row_total bytes → length new ≡ length bytes → drop 8 new ≡ drop 8 bytes → Builds count row_total new (parts_in count bytes)
+pub building_same : (count row_total : ℕ) (bytes new : List ℕ) → IsBuilding count row_total bytes → length new ≡ length bytes
+    → drop 8 new ≡ drop 8 bytes → Builds count row_total new (parts_in count bytes)
 building_same count row_total bytes new b len same =
     let parts : parts_in count new ≡ parts_in count bytes = ap (λ (l : List ℕ). or_nothing (records_at count false None l 0)) same in
     record {
@@ -152,26 +166,38 @@ some_rows : (parts : List Stored) → 0 < row_count parts → 0 < length parts
 some_rows [] h = absurd (omega arith)
 some_rows (r ∷ rs) h = omega arith
 
-building_finish : (count row_total : ℕ) (bytes : List ℕ) → IsBytes bytes → IsBuilding count row_total bytes → 0 < row_count (parts_in count bytes) → Finished count bytes (parts_in count bytes)
+building_finish : (count row_total : ℕ) (bytes : List ℕ) → IsBytes bytes → IsBuilding count row_total bytes → 0 < row_count (parts_in count bytes)
+    → Finished count bytes (parts_in count bytes)
 building_finish count row_total bytes fits b some =
     let parts = parts_in count bytes in
     let h = holds count row_total bytes b in
     let body = flat_map record_bytes parts in
     let size : length bytes - 8 ≡ length body = omega (arith, h.long, length-entry_bytes parts) in
     record {
-      is = record { some = some_rows parts some; records = records_weaker (eqb (length parts) 1) None parts (are_in count row_total bytes fits b); size = omega (arith, h.long, b.size) };
-      spelt = ap (λ (l : List ℕ). header_bytes count (length bytes - 8) ++ l) b.stands ∙ ap (λ (k : ℕ). header_bytes k (length bytes - 8) ++ body) (sym b.counted) ∙ ap (λ (k : ℕ). header_bytes (length parts) k ++ body) size;
+      is = record {
+        some = some_rows parts some;
+        records = records_weaker (eqb (length parts) 1) None parts
+            (are_in count row_total bytes fits b);
+        size = omega (arith, h.long, b.size);
+      };
+      spelt = ap (λ (l : List ℕ). header_bytes count (length bytes - 8) ++ l) b.stands
+          ∙ ap (λ (k : ℕ). header_bytes k (length bytes - 8) ++ body) (sym b.counted) ∙ ap (λ (k : ℕ). header_bytes (length parts) k ++ body) size;
     }
 
 -- the same of the records that contracts see
-pub finished : (count row_total : ℕ) (bytes : List ℕ) (parts : List Stored) → IsBytes bytes → IsBuilding count row_total bytes → parts_in count bytes ≡ parts → 0 < row_count parts → Finished count bytes parts
+pub finished : (count row_total : ℕ) (bytes : List ℕ) (parts : List Stored) → IsBytes bytes → IsBuilding count row_total bytes
+    → parts_in count bytes ≡ parts → 0 < row_count parts → Finished count bytes parts
 finished count row_total bytes parts fits b same some =
     subst (Finished count bytes) same (building_finish count row_total bytes fits b (subst (λ (p : List Stored). 0 < row_count p) (sym same) some))
 
 -- the test for room
-pub fits_room : (count row_total : ℕ) (bytes : List ℕ) (parts : List Stored) (len size : ℕ) → IsBuilding count row_total bytes → parts_in count bytes ≡ parts → len ≡ length bytes
+pub fits_room : (count row_total : ℕ) (bytes : List ℕ) (parts : List Stored) (len size : ℕ) → IsBuilding count row_total bytes
+    → parts_in count bytes ≡ parts → len ≡ length bytes
     → IsTrue (leb (len + 20 + size) ENTRY_MAX) ↔ (length (entry_bytes parts) + 20 + size ≤ ENTRY_MAX)
 fits_room count row_total bytes parts len size b same is =
     let h = holds count row_total bytes b in
-    let whole : len ≡ length (entry_bytes parts) = is ∙ h.long ∙ ap (λ (p : List Stored). length (entry_bytes p)) same in
-    (λ t. let room = leb-true (len + 20 + size) ENTRY_MAX t in omega (arith, room, whole), λ room. le-leb (len + 20 + size) ENTRY_MAX (omega (arith, room, whole)))
+    let whole : len ≡ length (entry_bytes parts) = is ∙ h.long ∙ ap (λ (p : List Stored). length (entry_bytes p)) same in (
+      λ t. let room = leb-true (len + 20 + size) ENTRY_MAX t in
+          omega (arith, room, whole),
+      λ room. le-leb (len + 20 + size) ENTRY_MAX (omega (arith, room, whole)),
+    )

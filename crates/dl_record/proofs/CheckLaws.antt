@@ -47,10 +47,12 @@ pub members_checked_on : (count i : ℕ) (bytes : List ℕ) (at end : ℕ) (tota
 unfolding members_at
 members_checked_on count i bytes at end total lt h so_far =
     let k : count - i ≡ suc (count - (i + 1)) = omega arith in
-    let one : passed (members_at (count - i) bytes at) ≡ passed (members_at (count - (i + 1)) bytes end) = rw (k, h) (passed_more _ (members_at (count - (i + 1)) bytes end)) in
+    let one : passed (members_at (count - i) bytes at) ≡ passed (members_at (count - (i + 1)) bytes end) =
+    rw (k, h) (passed_more _ (members_at (count - (i + 1)) bytes end)) in
     sym one ∙ so_far
 
-pub members_checked_stop : (count i : ℕ) (bytes : List ℕ) (at : ℕ) (flaw : EntryFlaw) (total : Result (Unit {0}) EntryFlaw) → i < count → member_end_at bytes at ≡ Err flaw
+pub members_checked_stop : (count i : ℕ) (bytes : List ℕ) (at : ℕ) (flaw : EntryFlaw) (total : Result (Unit {0}) EntryFlaw) → i < count
+    → member_end_at bytes at ≡ Err flaw
     → passed (members_at (count - i) bytes at) ≡ total → total ≡ Err flaw
 unfolding members_at
 members_checked_stop count i bytes at flaw total lt failed so_far =
@@ -65,10 +67,12 @@ members_checked count i bytes at total le so_far =
     let k : count - i ≡ 0 = omega arith in
     sym so_far ∙ ap (λ (n : ℕ). passed (members_at n bytes at)) k ∙ passed_end (eqb at (length bytes)) (Long at) []
 
-pub members_checked_all : (count i : ℕ) (bytes : List ℕ) (at : ℕ) (total : Result (Unit {0}) EntryFlaw) → count ≤ i → at ≡ length bytes → passed (members_at (count - i) bytes at) ≡ total → total ≡ Ok tt
+pub members_checked_all : (count i : ℕ) (bytes : List ℕ) (at : ℕ) (total : Result (Unit {0}) EntryFlaw) → count ≤ i → at ≡ length bytes
+    → passed (members_at (count - i) bytes at) ≡ total → total ≡ Ok tt
 members_checked_all count i bytes at total le e so_far = members_checked count i bytes at total le so_far ∙ ended_there at bytes e
 
-pub members_checked_long : (count i : ℕ) (bytes : List ℕ) (at : ℕ) (total : Result (Unit {0}) EntryFlaw) → count ≤ i → (at ≡ length bytes → ⊥) → passed (members_at (count - i) bytes at) ≡ total → total ≡ Err (Long at)
+pub members_checked_long : (count i : ℕ) (bytes : List ℕ) (at : ℕ) (total : Result (Unit {0}) EntryFlaw) → count ≤ i → (at ≡ length bytes → ⊥)
+    → passed (members_at (count - i) bytes at) ≡ total → total ≡ Err (Long at)
 members_checked_long count i bytes at total le e so_far = members_checked count i bytes at total le so_far ∙ goes_on at bytes e
 
 -- ---- the set
@@ -80,7 +84,8 @@ members_counted : (n : ℕ) (bytes : List ℕ) (at : ℕ) → (members_at n byte
 unfolding members_at
 members_counted zero bytes at = go (eqb at (length bytes))
   where
-    go : (b : Bool) → (cond {A = Result (List (List ℕ)) EntryFlaw} b (Ok []) (Err (Long at)) >>= λ payloads. Ok (length payloads)) ≡ counted 0 (cond b (Ok []) (Err (Long at)))
+    go : (b : Bool) → (cond {A = Result (List (List ℕ)) EntryFlaw} b (Ok []) (Err (Long at)) >>= λ payloads. Ok (length payloads)) ≡ counted 0
+        (cond b (Ok []) (Err (Long at)))
     go true = refl
     go false = refl
 members_counted (suc n) bytes at = first (member_end_at bytes at) (λ end. members_at n bytes end) (λ end. members_counted n bytes end)
@@ -90,7 +95,8 @@ members_counted (suc n) bytes at = first (member_end_at bytes at) (λ end. membe
     rest x (Ok others) e = ap (λ (r : Result ℕ EntryFlaw). r >>= λ k. Ok (suc k)) e
     rest x (Err flaw) e = refl
 
-    first : (end : Result ℕ EntryFlaw) (more : ℕ → Result (List (List ℕ)) EntryFlaw) → ((k : ℕ) → (more k >>= λ payloads. Ok (length payloads)) ≡ counted n (more k))
+    first : (end : Result ℕ EntryFlaw) (more : ℕ → Result (List (List ℕ)) EntryFlaw)
+        → ((k : ℕ) → (more k >>= λ payloads. Ok (length payloads)) ≡ counted n (more k))
         → ((end >>= λ end. more end >>= λ others. Ok (slice_range bytes (at + 4) end ∷ others)) >>= λ payloads. Ok (length payloads))
         ≡ counted (suc n) (end >>= λ end. more end >>= λ others. Ok (slice_range bytes (at + 4) end ∷ others))
     first (Ok end) more same = rest (slice_range bytes (at + 4) end) (more end) (same end)
@@ -100,23 +106,29 @@ set_checked : (bytes : List ℕ) (at : ℕ) → set_rows_at bytes at ≡ (set_co
 unfolding set_at
 set_checked bytes at = go (set_count_at bytes at)
   where
-    go : (count : Result ℕ EntryFlaw) → ((count >>= λ count. members_at count bytes (at + 4)) >>= λ payloads. Ok (length payloads)) ≡ (count >>= λ count. counted count (members_at count bytes (at + 4)))
+    go : (count : Result ℕ EntryFlaw)
+        → ((count >>= λ count. members_at count bytes (at + 4)) >>= λ payloads. Ok (length payloads)) ≡ (count >>= λ count. counted count
+        (members_at count bytes (at + 4)))
     go (Ok count) = members_counted count bytes (at + 4)
     go (Err flaw) = refl
 
 pub set_has_no_count : (bytes : List ℕ) (at : ℕ) (flaw : EntryFlaw) → set_count_at bytes at ≡ Err flaw → set_rows_at bytes at ≡ Err flaw
 set_has_no_count bytes at flaw h = set_checked bytes at ∙ ap (λ (r : Result ℕ EntryFlaw). r >>= λ count. counted count (members_at count bytes (at + 4))) h
 
-pub set_members : (bytes : List ℕ) (at count : ℕ) (read : Result (Unit {0}) EntryFlaw) → set_count_at bytes at ≡ Ok count → passed (members_at count bytes (at + 4)) ≡ read → set_rows_at bytes at ≡ (read >>= λ _. Ok count)
+pub set_members : (bytes : List ℕ) (at count : ℕ) (read : Result (Unit {0}) EntryFlaw) → set_count_at bytes at ≡ Ok count
+    → passed (members_at count bytes (at + 4)) ≡ read → set_rows_at bytes at ≡ (read >>= λ _. Ok count)
 set_members bytes at count read h e =
-    set_checked bytes at ∙ ap (λ (r : Result ℕ EntryFlaw). r >>= λ count. counted count (members_at count bytes (at + 4))) h ∙ ap (λ (r : Result (Unit {0}) EntryFlaw). r >>= λ _. Ok count) e
+    set_checked bytes at ∙ ap (λ (r : Result ℕ EntryFlaw). r >>= λ count. counted count (members_at count bytes (at + 4))) h
+    ∙ ap (λ (r : Result (Unit {0}) EntryFlaw). r >>= λ _. Ok count) e
 
 -- ---- one record
 
 pub set_content : (head : Head) (bytes : List ℕ) (at : ℕ) → head.kind ≡ kinds.Set → content_rows_at head bytes at ≡ set_rows_at (take head.end bytes) at
-set_content head bytes at is = ap (λ (kind : Kind). stored_at kind head.position head.txid bytes at head.end >>= λ stored. Ok (rows_in stored)) is ∙ go (set_at (take head.end bytes) at)
+set_content head bytes at is =
+    ap (λ (kind : Kind). stored_at kind head.position head.txid bytes at head.end >>= λ stored. Ok (rows_in stored)) is ∙ go (set_at (take head.end bytes) at)
   where
-    go : (read : Result (List (List ℕ)) EntryFlaw) → ((read >>= λ payloads. Ok (Set head.position head.txid payloads)) >>= λ stored. Ok (rows_in stored)) ≡ (read >>= λ payloads. Ok (length payloads))
+    go : (read : Result (List (List ℕ)) EntryFlaw)
+        → ((read >>= λ payloads. Ok (Set head.position head.txid payloads)) >>= λ stored. Ok (rows_in stored)) ≡ (read >>= λ payloads. Ok (length payloads))
     go (Ok payloads) = refl
     go (Err flaw) = refl
 
@@ -125,7 +137,8 @@ pub record IsOf (n t : ℕ) (r : Stored) : Type 0 where
   pub position : position_of r ≡ n
   pub txid : txid_of r ≡ t
 
-content_is : (kind : Kind) (position txid : ℕ) (bytes : List ℕ) (at end : ℕ) (r : Stored) → stored_at kind position txid bytes at end ≡ Ok r → IsOf position txid r
+content_is : (kind : Kind) (position txid : ℕ) (bytes : List ℕ) (at end : ℕ) (r : Stored) → stored_at kind position txid bytes at end ≡ Ok r
+    → IsOf position txid r
 content_is kinds.Plain position txid bytes at end r e =
     let is = ok_is (Plain position txid (slice_range bytes at end)) r e in
     record { position = ap position_of (sym is); txid = ap txid_of (sym is) }
@@ -140,17 +153,20 @@ content_is kinds.Set position txid bytes at end r e =
 abbrev asks : (position txid : ℕ) → Behind
 asks position txid = record { position = position; txid = txid }
 
-record_read : (alone : Bool) (before : Option Behind) (bytes : List ℕ) (at : ℕ) (head : Head) (r : Stored) → head_at alone before bytes at ≡ Ok head → content_at head bytes (at + 20) ≡ Ok r
+record_read : (alone : Bool) (before : Option Behind) (bytes : List ℕ) (at : ℕ) (head : Head) (r : Stored) → head_at alone before bytes at ≡ Ok head
+    → content_at head bytes (at + 20) ≡ Ok r
     → behind_at alone before bytes at ≡ Ok (behind r, head.end)
 unfolding record_at
 record_read alone before bytes at head r h c = rw (h, c) refl
 
-record_refused : (alone : Bool) (before : Option Behind) (bytes : List ℕ) (at : ℕ) (head : Head) (flaw : EntryFlaw) → head_at alone before bytes at ≡ Ok head → content_at head bytes (at + 20) ≡ Err flaw
+record_refused : (alone : Bool) (before : Option Behind) (bytes : List ℕ) (at : ℕ) (head : Head) (flaw : EntryFlaw)
+    → head_at alone before bytes at ≡ Ok head → content_at head bytes (at + 20) ≡ Err flaw
     → behind_at alone before bytes at ≡ Err flaw
 unfolding record_at
 record_refused alone before bytes at head flaw h c = rw (h, c) refl
 
-pub record_checked : (alone : Bool) (before : Option Behind) (bytes : List ℕ) (at rows position txid : ℕ) (head : Head) → head_at alone before bytes at ≡ Ok head → content_rows_at head bytes (at + 20) ≡ Ok rows
+pub record_checked : (alone : Bool) (before : Option Behind) (bytes : List ℕ) (at rows position txid : ℕ) (head : Head)
+    → head_at alone before bytes at ≡ Ok head → content_rows_at head bytes (at + 20) ≡ Ok rows
     → position ≡ head.position + rows → txid ≡ head.txid → behind_at alone before bytes at ≡ Ok (asks position txid, head.end)
 record_checked alone before bytes at rows position txid head h e counts t =
     let u = bind_ok (content_at head bytes (at + 20)) (λ stored. Ok (rows_in stored)) rows e in
@@ -159,11 +175,13 @@ record_checked alone before bytes at rows position txid head h e counts t =
     ap₂ (λ (p t : ℕ). asks p t) (ap₂ (λ (p n : ℕ). p + n) is.position (ok_is (rows_in u.0) rows u.2) ∙ sym counts) (is.txid ∙ sym t) in
     record_read alone before bytes at head u.0 h u.1 ∙ ap (λ (b : Behind). Ok (b, head.end)) same
 
-pub record_stops : (alone : Bool) (before : Option Behind) (bytes : List ℕ) (at : ℕ) (head : Head) (flaw : EntryFlaw) → head_at alone before bytes at ≡ Ok head → content_rows_at head bytes (at + 20) ≡ Err flaw
+pub record_stops : (alone : Bool) (before : Option Behind) (bytes : List ℕ) (at : ℕ) (head : Head) (flaw : EntryFlaw)
+    → head_at alone before bytes at ≡ Ok head → content_rows_at head bytes (at + 20) ≡ Err flaw
     → behind_at alone before bytes at ≡ Err flaw
 record_stops alone before bytes at head flaw h e = record_refused alone before bytes at head flaw h (kept_flaw (content_at head bytes (at + 20)) rows_in flaw e)
 
-pub record_has_no_head : (alone : Bool) (before : Option Behind) (bytes : List ℕ) (at : ℕ) (flaw : EntryFlaw) → head_at alone before bytes at ≡ Err flaw → behind_at alone before bytes at ≡ Err flaw
+pub record_has_no_head : (alone : Bool) (before : Option Behind) (bytes : List ℕ) (at : ℕ) (flaw : EntryFlaw)
+    → head_at alone before bytes at ≡ Err flaw → behind_at alone before bytes at ≡ Err flaw
 unfolding record_at
 record_has_no_head alone before bytes at flaw h = rw h refl
 
@@ -174,14 +192,16 @@ records_more : (n : ℕ) (alone : Bool) (before : Option Behind) (bytes : List �
 unfolding records_at
 records_more n alone before bytes at x h = rw h (passed_more x.0 (records_at n alone (Some (behind x.0)) bytes x.1))
 
-records_fail : (n : ℕ) (alone : Bool) (before : Option Behind) (bytes : List ℕ) (at : ℕ) (flaw : EntryFlaw) → record_at alone before bytes at ≡ Err flaw → passed (records_at (suc n) alone before bytes at) ≡ Err flaw
+records_fail : (n : ℕ) (alone : Bool) (before : Option Behind) (bytes : List ℕ) (at : ℕ) (flaw : EntryFlaw)
+    → record_at alone before bytes at ≡ Err flaw → passed (records_at (suc n) alone before bytes at) ≡ Err flaw
 unfolding records_at
 records_fail n alone before bytes at flaw h = rw h refl
 
 next_count : (count i : ℕ) → i < count → count - i ≡ suc (count - (i + 1))
 next_count count i lt = omega arith
 
-pub records_checked_on : (count i : ℕ) (alone : Bool) (before : Option Behind) (bytes : List ℕ) (at : ℕ) (x : Behind × ℕ) (total : Result (Unit {0}) EntryFlaw) → i < count
+pub records_checked_on : (count i : ℕ) (alone : Bool) (before : Option Behind) (bytes : List ℕ) (at : ℕ) (x : Behind × ℕ)
+    (total : Result (Unit {0}) EntryFlaw) → i < count
     → behind_at alone before bytes at ≡ Ok x → passed (records_at (count - i) alone before bytes at) ≡ total
     → passed (records_at (count - (i + 1)) alone (Some x.0) bytes x.1) ≡ total
 records_checked_on count i alone before bytes at x total lt h so_far =
@@ -191,7 +211,8 @@ records_checked_on count i alone before bytes at x total lt h so_far =
     ∙ ap (λ (n : ℕ). passed (records_at n alone before bytes at)) (sym (next_count count i lt))
     ∙ so_far
 
-pub records_checked_stop : (count i : ℕ) (alone : Bool) (before : Option Behind) (bytes : List ℕ) (at : ℕ) (flaw : EntryFlaw) (total : Result (Unit {0}) EntryFlaw) → i < count
+pub records_checked_stop : (count i : ℕ) (alone : Bool) (before : Option Behind) (bytes : List ℕ) (at : ℕ) (flaw : EntryFlaw)
+    (total : Result (Unit {0}) EntryFlaw) → i < count
     → behind_at alone before bytes at ≡ Err flaw → passed (records_at (count - i) alone before bytes at) ≡ total → total ≡ Err flaw
 records_checked_stop count i alone before bytes at flaw total lt h so_far =
     sym so_far
@@ -205,10 +226,12 @@ records_checked count i alone before bytes at total le so_far =
     let k : count - i ≡ 0 = omega arith in
     sym so_far ∙ ap (λ (n : ℕ). passed (records_at n alone before bytes at)) k ∙ passed_end (eqb at (length bytes)) (Long at) []
 
-pub records_checked_all : (count i : ℕ) (alone : Bool) (before : Option Behind) (bytes : List ℕ) (at : ℕ) (total : Result (Unit {0}) EntryFlaw) → count ≤ i → at ≡ length bytes
+pub records_checked_all : (count i : ℕ) (alone : Bool) (before : Option Behind) (bytes : List ℕ) (at : ℕ) (total : Result (Unit {0}) EntryFlaw)
+    → count ≤ i → at ≡ length bytes
     → passed (records_at (count - i) alone before bytes at) ≡ total → total ≡ Ok tt
 records_checked_all count i alone before bytes at total le e so_far = records_checked count i alone before bytes at total le so_far ∙ ended_there at bytes e
 
-pub records_checked_long : (count i : ℕ) (alone : Bool) (before : Option Behind) (bytes : List ℕ) (at : ℕ) (total : Result (Unit {0}) EntryFlaw) → count ≤ i → (at ≡ length bytes → ⊥)
+pub records_checked_long : (count i : ℕ) (alone : Bool) (before : Option Behind) (bytes : List ℕ) (at : ℕ) (total : Result (Unit {0}) EntryFlaw)
+    → count ≤ i → (at ≡ length bytes → ⊥)
     → passed (records_at (count - i) alone before bytes at) ≡ total → total ≡ Err (Long at)
 records_checked_long count i alone before bytes at total le e so_far = records_checked count i alone before bytes at total le so_far ∙ goes_on at bytes e

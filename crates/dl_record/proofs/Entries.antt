@@ -1,6 +1,6 @@
 -- Entries: what is read is in the grammar, and what is in the grammar is read.
 use Rattle.std.proofs.Common.{◌≡◌, ℕ, ◌+◌, ◌<◌, true, false, cond, eqb, leb, ltb, not, Option, None, Some, List, ◌++◌, length, drop, Result, Ok, Err, refl, sym, ap, subst, ◌∙◌, append_assoc, arith, length-append}
-use Rattle.std.specs.Prelude.{IfOk, IfErr, IsOk, MatchOption, ◌↔◌}
+use Rattle.std.specs.Prelude.{IfOk, IfErr, IfSome, IsOk, ◌↔◌}
 use Rattle.std.specs.List.{flat_map}
 use Rattle.std.specs.Int.{w8, w16, w32}
 use Rattle.std.proofs.lemmas.Bool.{eqb-true, leb-true, le-leb, ltb-false, le-ltb}
@@ -19,7 +19,8 @@ use Rattle.dl_record.proofs.Sizes.{length-header_bytes, length-entry_bytes, coun
 use Rattle.dl_record.proofs.Steps.{bind_ok, ok_is, chosen, allowed_ok, checked_ok, field_found, field_again}
 use Rattle.dl_record.proofs.RecordLaws.{records_found, records_again}
 
-pub header_bytes-append : (count size : ℕ) (rest : List ℕ) → header_bytes count size ++ rest ≡ field w8 1 ++ (field w8 0 ++ (field w16 count ++ (field w32 size ++ rest)))
+pub header_bytes-append : (count size : ℕ) (rest : List ℕ)
+    → header_bytes count size ++ rest ≡ field w8 1 ++ (field w8 0 ++ (field w16 count ++ (field w32 size ++ rest)))
 unfolding header_bytes
 header_bytes-append count size rest = simp append_assoc
 
@@ -31,7 +32,8 @@ pub record HeaderFound (bytes : List ℕ) (count size : ℕ) : Type 0 where
 header_found : (bytes : List ℕ) (count : ℕ) → IsBytes bytes → header_at bytes ≡ Ok count → (size : ℕ) × HeaderFound bytes count size
 unfolding header_at version_at codec_at count_at size_at
 header_found bytes count fits e =
-    let a = bind_ok (version_at bytes 0) (λ version. codec_at bytes 1 >>= λ codec. count_at bytes 2 >>= λ count. size_at bytes 4 >>= λ size. Ok count) count e in
+    let a = bind_ok (version_at bytes 0)
+    (λ version. codec_at bytes 1 >>= λ codec. count_at bytes 2 >>= λ count. size_at bytes 4 >>= λ size. Ok count) count e in
     let b = bind_ok (codec_at bytes 1) (λ codec. count_at bytes 2 >>= λ count. size_at bytes 4 >>= λ size. Ok count) count a.2 in
     let d = bind_ok (count_at bytes 2) (λ count. size_at bytes 4 >>= λ size. Ok count) count b.2 in
     let f = bind_ok (size_at bytes 4) (λ size. Ok d.0) count d.2 in
@@ -39,7 +41,8 @@ header_found bytes count fits e =
     let a' = checked_ok (field_at w8 bytes 0) (λ n. eqb n 1) (BadFlags 0) a.0 a.1 in
     let b' = checked_ok (field_at w8 bytes 1) (λ n. eqb n 0) (Compressed 1) b.0 b.1 in
     let d' = checked_ok (field_at w16 bytes 2) (λ n. not (eqb n 0)) (BadCount 2) d.0 d.1 in
-    let f' = bind_ok (field_at w32 bytes 4) (λ n. cond (ltb (length bytes) (4 + 4 + n)) (Err (Short 4)) (allowed (leb (length bytes) (4 + 4 + n)) (Long (4 + 4 + n)) n)) f.0 f.1 in
+    let f' = bind_ok (field_at w32 bytes 4)
+    (λ n. cond (ltb (length bytes) (4 + 4 + n)) (Err (Short 4)) (allowed (leb (length bytes) (4 + 4 + n)) (Long (4 + 4 + n)) n)) f.0 f.1 in
     let f'' = chosen (ltb (length bytes) (4 + 4 + f'.0)) (Short 4) (allowed (leb (length bytes) (4 + 4 + f'.0)) (Long (4 + 4 + f'.0)) f'.0) f.0 f'.2 in
     let f3 = allowed_ok (leb (length bytes) (4 + 4 + f'.0)) (Long (4 + 4 + f'.0)) f'.0 f.0 f''.1 in
     let pa = field_found w8 width_8 bytes 0 1 a.0 fits refl a'.0 in
@@ -80,7 +83,8 @@ entry_found bytes parts fits e =
     let body = flat_map record_bytes parts in
     let spelt : bytes ≡ header_bytes count size ++ body = h.1.stands ∙ ap (λ (l : List ℕ). header_bytes count size ++ l) r.stands in
     let sizes : size ≡ length body = omega (arith, ap length spelt, length-append (header_bytes count size) body, length-header_bytes count size, h.1.end) in
-    let whole : bytes ≡ entry_bytes parts = spelt ∙ ap (λ (k : ℕ). header_bytes k size ++ body) (sym r.count) ∙ ap (λ (k : ℕ). header_bytes (length parts) k ++ body) sizes in
+    let whole : bytes ≡ entry_bytes parts =
+    spelt ∙ ap (λ (k : ℕ). header_bytes k size ++ body) (sym r.count) ∙ ap (λ (k : ℕ). header_bytes (length parts) k ++ body) sizes in
     record {
       is = record {
         some = omega (arith, r.count, h.1.some);
@@ -114,11 +118,13 @@ entry_again parts is =
 
 -- ---- what a reader of the code says
 
-pub is_found : (bytes : List ℕ) (r : Result (List Stored) EntryFault) → IsBytes bytes → Gives (λ x. x) r (entry_at bytes) → IfOk r (λ parts. IsEntry parts × (bytes ≡ entry_bytes parts))
+pub is_found : (bytes : List ℕ) (r : Result (List Stored) EntryFault) → IsBytes bytes → Gives (λ x. x) r (entry_at bytes)
+    → IfOk r (λ parts. IsEntry parts × (bytes ≡ entry_bytes parts))
 is_found bytes (Ok parts) fits given = let f = entry_found bytes parts fits given in (f.is, f.spelt)
 is_found bytes (Err fault) fits given = tt
 
-pub is_only : (bytes : List ℕ) (r : Result (List Stored) EntryFault) → Gives (λ x. x) r (entry_at bytes) → (parts : List Stored) → IsEntry parts → bytes ≡ entry_bytes parts → Gives (λ x. x) r (Ok parts)
+pub is_only : (bytes : List ℕ) (r : Result (List Stored) EntryFault) → Gives (λ x. x) r (entry_at bytes) → (parts : List Stored) → IsEntry parts
+    → bytes ≡ entry_bytes parts → Gives (λ x. x) r (Ok parts)
 is_only bytes r given parts is e = subst (λ (read : Result (List Stored) EntryFlaw). Gives (λ x. x) r read) (ap entry_at e ∙ entry_again parts is) given
 
 refuses : (bytes : List ℕ) (flaw : EntryFlaw) → entry_at bytes ≡ Err flaw → IsFlaw bytes flaw
@@ -128,14 +134,18 @@ pub is_refused : (bytes : List ℕ) (r : Result (List Stored) EntryFault) → Gi
 is_refused bytes (Ok parts) given = tt
 is_refused bytes (Err fault) given = go (flaw_of fault) given
   where
-    go : (o : Option EntryFlaw) → MatchOption o (Unit {0}) (λ flaw. entry_at bytes ≡ Err flaw) → MatchOption o (Unit {0}) (IsFlaw bytes)
+    go : (o : Option EntryFlaw) → IfSome o (λ flaw. entry_at bytes ≡ Err flaw) → IfSome o (IsFlaw bytes)
     go None given = tt
     go (Some flaw) given = refuses bytes flaw given
 
 -- ---- what a check of the bytes says
 
 pub is_valid : (bytes : List ℕ) (r : Result (Unit {0}) EntryFlaw) → IsBytes bytes → passed (entry_at bytes) ≡ r → IsOk r ↔ IsEntryBytes bytes
-is_valid bytes r fits given = (λ ok. found (entry_at bytes) refl (subst (λ (x : Result (Unit {0}) EntryFlaw). IsOk x) (sym given) ok), λ spelt. subst (λ (x : Result (Unit {0}) EntryFlaw). IsOk x) (sym (again spelt) ∙ given) refl)
+is_valid bytes r fits given = (
+  λ ok. found (entry_at bytes) refl (subst (λ (x : Result (Unit {0}) EntryFlaw). IsOk x) (sym given) ok),
+  λ spelt. subst
+      (λ (x : Result (Unit {0}) EntryFlaw). IsOk x) (sym (again spelt) ∙ given) refl,
+)
   where
     found : (read : Result (List Stored) EntryFlaw) → entry_at bytes ≡ read → IsOk (passed read) → IsEntryBytes bytes
     found (Ok parts) e ok = let f = entry_found bytes parts fits e in (parts, f.is, f.spelt)

@@ -40,7 +40,8 @@ pub record HeadStands (alone : Bool) (before : Option Behind) (bytes : List ℕ)
   pub holds : may_hold head.kind size ≡ true
   pub end : head.end ≡ at + 20 + size
   pub room : head.end ≤ length bytes
-  pub stands : drop at bytes ≡ field w32 head.position ++ (field w32 (kind_flags head.kind) ++ (field w64 head.txid ++ (field w32 size ++ drop (at + 20) bytes)))
+  pub stands : drop at bytes ≡ field w32 head.position ++ (field w32
+      (kind_flags head.kind) ++ (field w64 head.txid ++ (field w32 size ++ drop (at + 20) bytes)))
 
 -- ---- flags
 
@@ -59,11 +60,15 @@ kind_found alone at n kind = plain (eqb n 0) refl
         subst (λ (k : Kind). (n ≡ kind_flags k) × FitsKind alone k) same (both alone n is)
     control false is e = absurd cc
 
-    set : (t : Bool) → eqb n 4 ≡ t → cond t (kinded kinds.Set) (cond (eqb n 1 && alone) (kinded kinds.Control) (Err (BadFlags at))) ≡ Ok kind → (n ≡ kind_flags kind) × FitsKind alone kind
+    set : (t : Bool) → eqb n 4 ≡ t → cond t (kinded kinds.Set) (cond (eqb n 1 && alone) (kinded kinds.Control) (Err (BadFlags at))) ≡ Ok kind
+        → (n ≡ kind_flags kind) × FitsKind alone kind
     set true is e = subst (λ (k : Kind). (n ≡ kind_flags k) × FitsKind alone k) (ok_is kinds.Set kind e) (eqb-true n 4 is, tt)
     set false is e = control (eqb n 1 && alone) refl e
 
-    plain : (t : Bool) → eqb n 0 ≡ t → cond t (kinded kinds.Plain) (cond (eqb n 4) (kinded kinds.Set) (cond (eqb n 1 && alone) (kinded kinds.Control) (Err (BadFlags at)))) ≡ Ok kind → (n ≡ kind_flags kind) × FitsKind alone kind
+    plain : (t : Bool) → eqb n 0 ≡ t
+        → cond t (kinded kinds.Plain)
+        (cond (eqb n 4) (kinded kinds.Set) (cond (eqb n 1 && alone) (kinded kinds.Control) (Err (BadFlags at)))) ≡ Ok kind
+        → (n ≡ kind_flags kind) × FitsKind alone kind
     plain true is e = subst (λ (k : Kind). (n ≡ kind_flags k) × FitsKind alone k) (ok_is kinds.Plain kind e) (eqb-true n 0 is, tt)
     plain false is e = set (eqb n 4) refl e
 
@@ -74,22 +79,32 @@ kind_again alone at kinds.Set fits = refl
 
 -- ---- the fields
 
-pub head_found : (alone : Bool) (before : Option Behind) (bytes : List ℕ) (at : ℕ) (head : Head) → IsBytes bytes → head_at alone before bytes at ≡ Ok head → (size : ℕ) × HeadStands alone before bytes at head size
+pub head_found : (alone : Bool) (before : Option Behind) (bytes : List ℕ) (at : ℕ) (head : Head) → IsBytes bytes
+    → head_at alone before bytes at ≡ Ok head → (size : ℕ) × HeadStands alone before bytes at head size
 unfolding head_at position_at kind_at txid_at length_at
 head_found alone before bytes at head fits e =
-    let a = bind_ok (position_at before bytes at) (λ position. kind_at alone bytes (at + 4) >>= λ kind. txid_at before bytes (at + 8) >>= λ txid. length_at kind bytes (at + 16) >>= λ size. end_at bytes (at + 20) size >>= λ end. Ok (record { position = position; kind = kind; txid = txid; end = end })) head e in
-    let b = bind_ok (kind_at alone bytes (at + 4)) (λ kind. txid_at before bytes (at + 8) >>= λ txid. length_at kind bytes (at + 16) >>= λ size. end_at bytes (at + 20) size >>= λ end. Ok (record { position = a.0; kind = kind; txid = txid; end = end })) head a.2 in
-    let d = bind_ok (txid_at before bytes (at + 8)) (λ txid. length_at b.0 bytes (at + 16) >>= λ size. end_at bytes (at + 20) size >>= λ end. Ok (record { position = a.0; kind = b.0; txid = txid; end = end })) head b.2 in
-    let f = bind_ok (length_at b.0 bytes (at + 16)) (λ size. end_at bytes (at + 20) size >>= λ end. Ok (record { position = a.0; kind = b.0; txid = d.0; end = end })) head d.2 in
+    let a = bind_ok (position_at before bytes at)
+    (λ position. kind_at alone bytes (at + 4) >>= λ kind. txid_at before bytes (at + 8) >>= λ txid. length_at kind bytes
+    (at + 16) >>= λ size. end_at bytes (at + 20) size >>= λ end. Ok (record { position = position; kind = kind; txid = txid; end = end })) head e in
+    let b = bind_ok (kind_at alone bytes (at + 4))
+    (λ kind. txid_at before bytes (at + 8) >>= λ txid. length_at kind bytes (at + 16) >>= λ size. end_at bytes (at + 20) size >>= λ end. Ok
+    (record { position = a.0; kind = kind; txid = txid; end = end })) head a.2 in
+    let d = bind_ok (txid_at before bytes (at + 8))
+    (λ txid. length_at b.0 bytes (at + 16) >>= λ size. end_at bytes (at + 20) size >>= λ end. Ok
+    (record { position = a.0; kind = b.0; txid = txid; end = end })) head b.2 in
+    let f = bind_ok (length_at b.0 bytes (at + 16))
+    (λ size. end_at bytes (at + 20) size >>= λ end. Ok (record { position = a.0; kind = b.0; txid = d.0; end = end })) head d.2 in
     let g = bind_ok (end_at bytes (at + 20) f.0) (λ end. Ok (record { position = a.0; kind = b.0; txid = d.0; end = end })) head f.2 in
     let made : Head = record { position = a.0; kind = b.0; txid = d.0; end = g.0 } in
     let a' = checked_ok (field_at w32 bytes at) (may_stand before) (BadCount at) a.0 a.1 in
     let b' = bind_ok (field_at w32 bytes (at + 4)) (λ n. kind_of alone (at + 4) n) b.0 b.1 in
     let b'' = kind_found alone (at + 4) b'.0 b.0 b'.2 in
-    let d' = bind_ok (field_at w64 bytes (at + 8)) (λ n. cond (ltb MAX_TXID n) (Err (BadFlags (at + 8))) (allowed (may_bear before n) (TxidBack (at + 8)) n)) d.0 d.1 in
+    let d' = bind_ok (field_at w64 bytes (at + 8))
+    (λ n. cond (ltb MAX_TXID n) (Err (BadFlags (at + 8))) (allowed (may_bear before n) (TxidBack (at + 8)) n)) d.0 d.1 in
     let d'' = chosen (ltb MAX_TXID d'.0) (BadFlags (at + 8)) (allowed (may_bear before d'.0) (TxidBack (at + 8)) d'.0) d.0 d'.2 in
     let d3 = allowed_ok (may_bear before d'.0) (TxidBack (at + 8)) d'.0 d.0 d''.1 in
-    let f' = bind_ok (field_at w32 bytes (at + 16)) (λ n. cond (ltb PAYLOAD_MAX n) (Err (TooLong (at + 16))) (allowed (may_hold b.0 n) (BadCount (at + 16)) n)) f.0 f.1 in
+    let f' = bind_ok (field_at w32 bytes (at + 16))
+    (λ n. cond (ltb PAYLOAD_MAX n) (Err (TooLong (at + 16))) (allowed (may_hold b.0 n) (BadCount (at + 16)) n)) f.0 f.1 in
     let f'' = chosen (ltb PAYLOAD_MAX f'.0) (TooLong (at + 16)) (allowed (may_hold b.0 f'.0) (BadCount (at + 16)) f'.0) f.0 f'.2 in
     let f3 = allowed_ok (may_hold b.0 f'.0) (BadCount (at + 16)) f'.0 f.0 f''.1 in
     let pa = field_found w32 width_32 bytes at (at + 4) a.0 fits refl a'.0 in
@@ -119,7 +134,8 @@ pub record HeadReads (alone : Bool) (before : Option Behind) (bytes : List ℕ) 
   pub behind : drop (at + 20) bytes ≡ rest
   pub room : head.end ≤ length bytes
 
-pub head_again : (alone : Bool) (before : Option Behind) (bytes : List ℕ) (at : ℕ) (position txid size : ℕ) (kind : Kind) (rest : List ℕ) → position < 2 ^ 32 → may_stand before position ≡ true → FitsKind alone kind
+pub head_again : (alone : Bool) (before : Option Behind) (bytes : List ℕ) (at : ℕ) (position txid size : ℕ) (kind : Kind) (rest : List ℕ)
+    → position < 2 ^ 32 → may_stand before position ≡ true → FitsKind alone kind
     → txid ≤ MAX_TXID → may_bear before txid ≡ true → size ≤ PAYLOAD_MAX → may_hold kind size ≡ true → size ≤ length rest
     → drop at bytes ≡ field w32 position ++ (field w32 (kind_flags kind) ++ (field w64 txid ++ (field w32 size ++ rest)))
     → HeadReads alone before bytes at (record { position = position; kind = kind; txid = txid; end = at + 20 + size }) rest
@@ -127,8 +143,10 @@ unfolding head_at position_at kind_at txid_at length_at
 head_again alone before bytes at position txid size kind rest position-fits stands fits txid-fits bears size-fits holds room e =
     let flags = kind_flags kind in
     let flags-fit : flags < 2 ^ 32 = few kind in
-    let pa = field_again w32 width_32 (omega arith) bytes at (at + 4) position (field w32 flags ++ (field w64 txid ++ (field w32 size ++ rest))) refl position-fits e in
-    let pb = field_again w32 width_32 (omega arith) bytes (at + 4) (at + 8) flags (field w64 txid ++ (field w32 size ++ rest)) (omega arith) flags-fit pa.behind in
+    let pa = field_again w32 width_32 (omega arith) bytes at (at + 4) position
+    (field w32 flags ++ (field w64 txid ++ (field w32 size ++ rest))) refl position-fits e in
+    let pb = field_again w32 width_32 (omega arith) bytes (at + 4) (at + 8) flags (field w64 txid ++ (field w32 size ++ rest))
+    (omega arith) flags-fit pa.behind in
     let pd = field_again w64 width_64 (omega arith) bytes (at + 8) (at + 16) txid (field w32 size ++ rest) (omega arith) (omega arith) pb.behind in
     let pf = field_again w32 width_32 (omega arith) bytes (at + 16) (at + 20) size rest (omega arith) (omega arith) pd.behind in
     let long : length bytes - (at + 20) ≡ length rest = sym (length-drop (at + 20) bytes) ∙ ap length pf.behind in
@@ -136,7 +154,20 @@ head_again alone before bytes at position txid size kind rest position-fits stan
     let small : ltb MAX_TXID txid ≡ false = le-ltb MAX_TXID txid txid-fits in
     let short : ltb PAYLOAD_MAX size ≡ false = le-ltb PAYLOAD_MAX size size-fits in
     record {
-      reads = rw (pa.reads, stands, pb.reads, kind_again alone (at + 4) kind fits, pd.reads, small, bears, pf.reads, short, holds, end_again bytes (at + 20) size end) refl;
+      reads = rw (
+        pa.reads,
+        stands,
+        pb.reads,
+        kind_again alone (at + 4) kind fits,
+        pd.reads,
+        small,
+        bears,
+        pf.reads,
+        short,
+        holds,
+        end_again bytes
+            (at + 20) size end,
+      ) refl;
       behind = pf.behind;
       room = end;
     }

@@ -14,13 +14,24 @@ pub length-set_bytes : (ps : List (List ℕ)) → length (set_bytes ps) ≡ 4 + 
 unfolding set_bytes
 length-set_bytes ps =
     let tail = field w16 (length ps) ++ flat_map member_bytes ps in
-    omega (arith, length-append (field w8 0) (field w8 0 ++ tail), length-append (field w8 0) tail, length-append (field w16 (length ps)) (flat_map member_bytes ps), width_8.len 0, width_16.len (length ps))
+    omega (
+      arith,
+      length-append (field w8 0) (field w8 0 ++ tail),
+      length-append (field w8 0) tail,
+      length-append (field w16 (length ps))
+          (flat_map member_bytes ps),
+      width_8.len 0,
+      width_16.len (length ps),
+    )
 
 -- the members from a place on are one member and the members behind it
-pub members_more : (ps : List (List ℕ)) (i : ℕ) (p : List ℕ) → i < length ps → p ≡ get_or ps i p → flat_map member_bytes (drop i ps) ≡ member_bytes p ++ flat_map member_bytes (drop (i + 1) ps)
-members_more ps i p lt is = ap (flat_map member_bytes) (drop_more ps i p lt) ∙ ap (λ (q : List ℕ). member_bytes q ++ flat_map member_bytes (drop (i + 1) ps)) (sym is)
+pub members_more : (ps : List (List ℕ)) (i : ℕ) (p : List ℕ) → i < length ps → p ≡ get_or ps i p
+    → flat_map member_bytes (drop i ps) ≡ member_bytes p ++ flat_map member_bytes (drop (i + 1) ps)
+members_more ps i p lt is =
+    ap (flat_map member_bytes) (drop_more ps i p lt) ∙ ap (λ (q : List ℕ). member_bytes q ++ flat_map member_bytes (drop (i + 1) ps)) (sym is)
 
-pub size_more : (ps : List (List ℕ)) (i : ℕ) (p : List ℕ) → i < length ps → p ≡ get_or ps i p → length (flat_map member_bytes (drop i ps)) ≡ 4 + length p + length (flat_map member_bytes (drop (i + 1) ps))
+pub size_more : (ps : List (List ℕ)) (i : ℕ) (p : List ℕ) → i < length ps → p ≡ get_or ps i p
+    → length (flat_map member_bytes (drop i ps)) ≡ 4 + length p + length (flat_map member_bytes (drop (i + 1) ps))
 size_more ps i p lt is =
     let e = ap length (members_more ps i p lt is) in
     omega (arith, e, length-append (member_bytes p) (flat_map member_bytes (drop (i + 1) ps)), length-member_bytes p)

@@ -34,7 +34,8 @@ member_found bytes at end fits e =
     let len : size ≡ length payload = omega (arith, p.len, g.0) in
     record {
       room = g.1;
-      stands = f.stands ∙ ap (λ (l : List ℕ). field w32 size ++ l) p.stands ∙ sym (append_assoc (field w32 size) payload (drop end bytes)) ∙ ap (λ (k : ℕ). (field w32 k ++ payload) ++ drop end bytes) len;
+      stands = f.stands ∙ ap (λ (l : List ℕ). field w32 size ++ l) p.stands ∙ sym (append_assoc (field w32 size) payload (drop end bytes))
+          ∙ ap (λ (k : ℕ). (field w32 k ++ payload) ++ drop end bytes) len;
     }
 
 pub record MemberReads (bytes : List ℕ) (at : ℕ) (payload rest : List ℕ) : Type 0 where
@@ -43,7 +44,8 @@ pub record MemberReads (bytes : List ℕ) (at : ℕ) (payload rest : List ℕ) :
   pub behind : drop (at + 4 + length payload) bytes ≡ rest
   pub room : at + 4 + length payload ≤ length bytes
 
-pub member_again : (bytes : List ℕ) (at : ℕ) (payload rest : List ℕ) → length payload < 2 ^ 32 → drop at bytes ≡ member_bytes payload ++ rest → MemberReads bytes at payload rest
+pub member_again : (bytes : List ℕ) (at : ℕ) (payload rest : List ℕ) → length payload < 2 ^ 32 → drop at bytes ≡ member_bytes payload ++ rest
+    → MemberReads bytes at payload rest
 unfolding member_end_at
 member_again bytes at payload rest fits e =
     let size = length payload in
@@ -56,7 +58,8 @@ member_again bytes at payload rest fits e =
 -- ---- the members
 
 -- whether the bytes end at a place
-pub ends_there : {A : Type 0} (at : ℕ) (bytes : List ℕ) (x y : A) → (let r : Result A EntryFlaw = cond (eqb at (length bytes)) (Ok x) (Err (Long at)) in r) ≡ Ok y → (at ≡ length bytes) × (x ≡ y)
+pub ends_there : {A : Type 0} (at : ℕ) (bytes : List ℕ) (x y : A)
+    → (let r : Result A EntryFlaw = cond (eqb at (length bytes)) (Ok x) (Err (Long at)) in r) ≡ Ok y → (at ≡ length bytes) × (x ≡ y)
 ends_there {A} at bytes x y = go (eqb at (length bytes)) refl
   where
     go : (t : Bool) → eqb at (length bytes) ≡ t → (let r : Result A EntryFlaw = cond t (Ok x) (Err (Long at)) in r) ≡ Ok y → (at ≡ length bytes) × (x ≡ y)
@@ -84,7 +87,8 @@ members_found (suc n) bytes at ps fits e =
       count = ap suc more.count;
     })
 
-members_again : (ps : List (List ℕ)) (bytes : List ℕ) (at : ℕ) → length (flat_map member_bytes ps) < 2 ^ 32 → at ≤ length bytes → drop at bytes ≡ flat_map member_bytes ps → members_at (length ps) bytes at ≡ Ok ps
+members_again : (ps : List (List ℕ)) (bytes : List ℕ) (at : ℕ) → length (flat_map member_bytes ps) < 2 ^ 32 → at ≤ length bytes
+    → drop at bytes ≡ flat_map member_bytes ps → members_at (length ps) bytes at ≡ Ok ps
 unfolding members_at
 members_again [] bytes at fits room e =
     let end : at ≡ length bytes = omega (arith, room, sym (length-drop at bytes) ∙ ap length e) in
@@ -123,12 +127,14 @@ set_found bytes at ps fits e =
     record {
       stands = fa.stands ∙ ap (λ (k : ℕ). field w8 k ++ drop (at + 1) bytes) za
           ∙ ap (λ (l : List ℕ). field w8 0 ++ l) (fb.stands ∙ ap (λ (k : ℕ). field w8 k ++ drop (at + 2) bytes) zb
-          ∙ ap (λ (l : List ℕ). field w8 0 ++ l) (fd.stands ∙ ap (λ (k : ℕ). field w16 k ++ drop (at + 4) bytes) count ∙ ap (λ (l : List ℕ). field w16 (length ps) ++ l) m.stands));
+          ∙ ap (λ (l : List ℕ). field w8 0 ++ l)
+          (fd.stands ∙ ap (λ (k : ℕ). field w16 k ++ drop (at + 4) bytes) count ∙ ap (λ (l : List ℕ). field w16 (length ps) ++ l) m.stands));
       some = grind (arith, nat_tests, passes, count);
       most = grind (arith, nat_tests, passes, count);
     }
 
-pub set_again : (bytes : List ℕ) (at : ℕ) (ps : List (List ℕ)) → 1 ≤ length ps → length ps ≤ MEMBERS_MAX → length (set_bytes ps) ≤ PAYLOAD_MAX → drop at bytes ≡ set_bytes ps → set_at bytes at ≡ Ok ps
+pub set_again : (bytes : List ℕ) (at : ℕ) (ps : List (List ℕ)) → 1 ≤ length ps → length ps ≤ MEMBERS_MAX → length (set_bytes ps) ≤ PAYLOAD_MAX
+    → drop at bytes ≡ set_bytes ps → set_at bytes at ≡ Ok ps
 unfolding set_at set_count_at codec_at zero_at members_count_at set_bytes
 set_again bytes at ps some most size e =
     let members = flat_map member_bytes ps in

@@ -32,7 +32,8 @@ pub record Content (alone : Bool) (kind : Kind) (n t : ℕ) (text : List ℕ) (r
   pub members : IsMembers r
   pub allowed : IsAllowed alone r
 
-content_found : (alone : Bool) (kind : Kind) (position txid : ℕ) (bytes : List ℕ) (at end : ℕ) (r : Stored) → IsBytes bytes → FitsKind alone kind → may_hold kind (end - at) ≡ true
+content_found : (alone : Bool) (kind : Kind) (position txid : ℕ) (bytes : List ℕ) (at end : ℕ) (r : Stored) → IsBytes bytes → FitsKind alone kind
+    → may_hold kind (end - at) ≡ true
     → stored_at kind position txid bytes at end ≡ Ok r → Content alone kind position txid (slice_range bytes at end) r
 content_found alone kinds.Plain position txid bytes at end r fits alone-fits holds e =
     subst (Content alone kinds.Plain position txid (slice_range bytes at end)) (ok_is (Plain position txid (slice_range bytes at end)) r e)
@@ -53,7 +54,8 @@ kind_in (Plain position txid payload) = kinds.Plain
 kind_in (Control position txid) = kinds.Control
 kind_in (Set position txid payloads) = kinds.Set
 
-content_again : (r : Stored) (bytes : List ℕ) (at end : ℕ) → IsMembers r → length (payload_bytes r) ≤ PAYLOAD_MAX → slice_range bytes at end ≡ payload_bytes r → stored_at (kind_in r) (position_of r) (txid_of r) bytes at end ≡ Ok r
+content_again : (r : Stored) (bytes : List ℕ) (at end : ℕ) → IsMembers r → length (payload_bytes r) ≤ PAYLOAD_MAX
+    → slice_range bytes at end ≡ payload_bytes r → stored_at (kind_in r) (position_of r) (txid_of r) bytes at end ≡ Ok r
 content_again (Plain position txid payload) bytes at end members short e = rw e refl
 content_again (Control position txid) bytes at end members short e = refl
 content_again (Set position txid payloads) bytes at end members short e =
@@ -82,7 +84,8 @@ abbrev pub behind_all : Option Stored → Option Behind
 behind_all None = None
 behind_all (Some r) = Some (behind r)
 
-follows_found : (before : Option Stored) (r : Stored) → may_stand (behind_all before) (position_of r) ≡ true → may_bear (behind_all before) (txid_of r) ≡ true → Follows before r
+follows_found : (before : Option Stored) (r : Stored) → may_stand (behind_all before) (position_of r) ≡ true
+    → may_bear (behind_all before) (txid_of r) ≡ true → Follows before r
 follows_found None r stands bears = tt
 follows_found (Some b) r stands bears = record { position = eqb-true _ _ stands; txid = leb-true _ _ bears }
 
@@ -96,7 +99,9 @@ bears_again (Some b) r h = le-leb _ _ h.txid
 
 -- ---- one record
 
-pub fields_and_payload-append : (position flags txid : ℕ) (payload rest : List ℕ) → fields_and_payload position flags txid payload ++ rest ≡ field w32 position ++ (field w32 flags ++ (field w64 txid ++ (field w32 (length payload) ++ (payload ++ rest))))
+pub fields_and_payload-append : (position flags txid : ℕ) (payload rest : List ℕ)
+    → fields_and_payload position flags txid payload ++ rest ≡ field w32 position ++ (field w32 flags ++ (field w64 txid ++ (field w32
+    (length payload) ++ (payload ++ rest))))
 unfolding fields_and_payload
 fields_and_payload-append position flags txid payload rest = simp append_assoc
 
@@ -108,7 +113,8 @@ pub record RecordFound (alone : Bool) (before : Option Stored) (bytes : List ℕ
   pub room : end ≤ length bytes
   pub stands : drop at bytes ≡ record_bytes r ++ drop end bytes
 
-pub record_found : (alone : Bool) (before : Option Stored) (bytes : List ℕ) (at : ℕ) (x : Stored × ℕ) → IsBytes bytes → record_at alone (behind_all before) bytes at ≡ Ok x → RecordFound alone before bytes at x.0 x.1
+pub record_found : (alone : Bool) (before : Option Stored) (bytes : List ℕ) (at : ℕ) (x : Stored × ℕ) → IsBytes bytes
+    → record_at alone (behind_all before) bytes at ≡ Ok x → RecordFound alone before bytes at x.0 x.1
 unfolding record_at
 record_found alone before bytes at x fits e =
     let a = bind_ok (head_at alone (behind_all before) bytes at) (λ head. content_at head bytes (at + 20) >>= λ stored. Ok (stored, head.end)) x e in
@@ -125,7 +131,8 @@ record_found alone before bytes at x fits e =
     let c = content_found alone head.kind head.position head.txid bytes (at + 20) head.end r fits s.fits (ap (may_hold head.kind) span ∙ s.holds) b.1 in
     let whole : fields_and_payload head.position (kind_flags head.kind) head.txid payload ++ drop head.end bytes ≡ drop at bytes =
     fields_and_payload-append head.position (kind_flags head.kind) head.txid payload (drop head.end bytes)
-    ∙ sym (s.stands ∙ ap (λ (l : List ℕ). field w32 head.position ++ (field w32 (kind_flags head.kind) ++ (field w64 head.txid ++ l))) (ap (λ (k : ℕ). field w32 k ++ drop (at + 20) bytes) (sym len) ∙ ap (λ (l : List ℕ). field w32 (length payload) ++ l) p.stands)) in
+    ∙ sym (s.stands ∙ ap (λ (l : List ℕ). field w32 head.position ++ (field w32 (kind_flags head.kind) ++ (field w64 head.txid ++ l)))
+    (ap (λ (k : ℕ). field w32 k ++ drop (at + 20) bytes) (sym len) ∙ ap (λ (l : List ℕ). field w32 (length payload) ++ l) p.stands)) in
     let spelt : record_bytes r ≡ fields_and_payload head.position (kind_flags head.kind) head.txid payload = rw (c.position, c.flags, c.txid, c.payload) refl in
     subst (λ (y : Stored × ℕ). RecordFound alone before bytes at y.0 y.1) (ok_is (r, head.end) x b.2) (record {
       is = record {
@@ -146,15 +153,20 @@ pub record RecordReads (alone : Bool) (before : Option Stored) (bytes : List ℕ
   pub behind : drop (at + 20 + length (payload_bytes r)) bytes ≡ rest
   pub room : at + 20 + length (payload_bytes r) ≤ length bytes
 
-pub record_again : (alone : Bool) (before : Option Stored) (bytes : List ℕ) (at : ℕ) (r : Stored) (rest : List ℕ) → IsRecord r → IsAllowed alone r → Follows before r → drop at bytes ≡ record_bytes r ++ rest → RecordReads alone before bytes at r rest
+pub record_again : (alone : Bool) (before : Option Stored) (bytes : List ℕ) (at : ℕ) (r : Stored) (rest : List ℕ) → IsRecord r → IsAllowed alone r
+    → Follows before r → drop at bytes ≡ record_bytes r ++ rest → RecordReads alone before bytes at r rest
 unfolding record_at
 record_again alone before bytes at r rest is allowed follows e =
     let payload = payload_bytes r in
     let size = length payload in
-    let stands : drop at bytes ≡ field w32 (position_of r) ++ (field w32 (kind_flags (kind_in r)) ++ (field w64 (txid_of r) ++ (field w32 size ++ (payload ++ rest)))) =
+    let stands : drop at bytes ≡ field w32
+    (position_of r) ++ (field w32 (kind_flags (kind_in r)) ++ (field w64 (txid_of r) ++ (field w32 size ++ (payload ++ rest)))) =
     e ∙ fields_and_payload-append (position_of r) (flags_of r) (txid_of r) payload rest
-    ∙ ap (λ (k : ℕ). field w32 (position_of r) ++ (field w32 k ++ (field w64 (txid_of r) ++ (field w32 size ++ (payload ++ rest))))) (sym (kind_flags-kind_in r)) in
-    let h = head_again alone (behind_all before) bytes at (position_of r) (txid_of r) size (kind_in r) (payload ++ rest) is.position (stands_again before r follows) (kind_fits alone r allowed) is.txid (bears_again before r follows) is.payload (kind_holds r) (omega (arith, length-append payload rest)) stands in
+    ∙ ap (λ (k : ℕ). field w32 (position_of r) ++ (field w32 k ++ (field w64 (txid_of r) ++ (field w32 size ++ (payload ++ rest)))))
+    (sym (kind_flags-kind_in r)) in
+    let h = head_again alone (behind_all before) bytes at (position_of r) (txid_of r) size (kind_in r) (payload ++ rest) is.position
+    (stands_again before r follows) (kind_fits alone r allowed) is.txid (bears_again before r follows) is.payload (kind_holds r)
+    (omega (arith, length-append payload rest)) stands in
     let p = part_again bytes (at + 20) (at + 20 + size) payload rest refl h.behind in
     let c = content_again r bytes (at + 20) (at + 20 + size) is.members is.payload p.reads in
     record { reads = rw (h.reads, c) refl; behind = p.behind; room = h.room }
@@ -166,13 +178,15 @@ pub record RecordsFound (n : ℕ) (alone : Bool) (before : Option Stored) (bytes
   pub stands : drop at bytes ≡ flat_map record_bytes rs
   pub count : length rs ≡ n
 
-pub records_found : (n : ℕ) (alone : Bool) (before : Option Stored) (bytes : List ℕ) (at : ℕ) (rs : List Stored) → IsBytes bytes → records_at n alone (behind_all before) bytes at ≡ Ok rs → RecordsFound n alone before bytes at rs
+pub records_found : (n : ℕ) (alone : Bool) (before : Option Stored) (bytes : List ℕ) (at : ℕ) (rs : List Stored) → IsBytes bytes
+    → records_at n alone (behind_all before) bytes at ≡ Ok rs → RecordsFound n alone before bytes at rs
 unfolding records_at
 records_found zero alone before bytes at rs fits e =
     let g = ends_there at bytes [] rs e in
     subst (RecordsFound zero alone before bytes at) g.1 (record { are = tt; stands = drop_all at bytes (omega (arith, g.0)); count = refl })
 records_found (suc n) alone before bytes at rs fits e =
-    let u = bind_ok (record_at alone (behind_all before) bytes at) (λ first. records_at n alone (Some (behind first.0)) bytes first.1 >>= λ others. Ok (first.0 ∷ others)) rs e in
+    let u = bind_ok (record_at alone (behind_all before) bytes at)
+    (λ first. records_at n alone (Some (behind first.0)) bytes first.1 >>= λ others. Ok (first.0 ∷ others)) rs e in
     let v = bind_ok (records_at n alone (Some (behind u.0.0)) bytes u.0.1) (λ others. Ok (u.0.0 ∷ others)) rs u.2 in
     let one = record_found alone before bytes at u.0 fits u.1 in
     let more = records_found n alone (Some u.0.0) bytes u.0.1 v.0 fits v.1 in
@@ -182,7 +196,8 @@ records_found (suc n) alone before bytes at rs fits e =
       count = ap suc more.count;
     })
 
-pub records_again : (rs : List Stored) (alone : Bool) (before : Option Stored) (bytes : List ℕ) (at : ℕ) → AreRecords alone before rs → at ≤ length bytes → drop at bytes ≡ flat_map record_bytes rs → records_at (length rs) alone (behind_all before) bytes at ≡ Ok rs
+pub records_again : (rs : List Stored) (alone : Bool) (before : Option Stored) (bytes : List ℕ) (at : ℕ) → AreRecords alone before rs
+    → at ≤ length bytes → drop at bytes ≡ flat_map record_bytes rs → records_at (length rs) alone (behind_all before) bytes at ≡ Ok rs
 unfolding records_at
 records_again [] alone before bytes at are room e =
     let end : at ≡ length bytes = omega (arith, room, sym (length-drop at bytes) ∙ ap length e) in

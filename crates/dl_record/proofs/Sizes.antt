@@ -30,13 +30,34 @@ length-fields_and_payload position flags txid payload =
     let a = field w32 (length payload) ++ payload in
     let b = field w64 txid ++ a in
     let c = field w32 flags ++ b in
-    omega (arith, length-append (field w32 position) c, length-append (field w32 flags) b, length-append (field w64 txid) a, length-append (field w32 (length payload)) payload, width_32.len position, width_32.len flags, width_64.len txid, width_32.len (length payload))
+    omega (
+      arith,
+      length-append (field w32 position) c,
+      length-append (field w32 flags) b,
+      length-append (field w64 txid) a,
+      length-append
+          (field w32 (length payload)) payload,
+      width_32.len position,
+      width_32.len flags,
+      width_64.len txid,
+      width_32.len (length payload),
+    )
 
 pub length-header_bytes : (count size : ℕ) → length (header_bytes count size) ≡ 8
 unfolding header_bytes
 length-header_bytes count size =
     let a = field w16 count ++ field w32 size in
-    omega (arith, length-append (field w8 1) (field w8 0 ++ a), length-append (field w8 0) a, length-append (field w16 count) (field w32 size), width_8.len 1, width_8.len 0, width_16.len count, width_32.len size)
+    omega (
+      arith,
+      length-append (field w8 1) (field w8 0 ++ a),
+      length-append (field w8 0) a,
+      length-append (field w16 count)
+          (field w32 size),
+      width_8.len 1,
+      width_8.len 0,
+      width_16.len count,
+      width_32.len size,
+    )
 
 pub length-record_bytes : (r : Stored) → length (record_bytes r) ≡ 20 + length (payload_bytes r)
 length-record_bytes r = length-fields_and_payload (position_of r) (flags_of r) (txid_of r) (payload_bytes r)

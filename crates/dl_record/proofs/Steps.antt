@@ -5,7 +5,9 @@ use Rattle.std.specs.Int.{Width, byte_len}
 use Rattle.std.proofs.lemmas.Bool.{cases_lt, leb-true, le-leb}
 use Rattle.std.proofs.lemmas.List.{take_at, drop_at, take-append-drop, length-take, length-take-le, length-drop, drop-drop, get_or-drop, get_or-take, get_or_past}
 use Rattle.dl_codec.specs.declared.short.Short as codec
-use Rattle.dl_codec.specs.Fields.{field, number_of, number_at, short_at, IsBytes, HasOneSpelling}
+pub use Rattle.dl_reading.proofs.ReadingLemmas.{bind_ok, ok_is}
+use Rattle.dl_codec.specs.Fields.{field, number_of, number_at, short_at, IsBytes}
+use Rattle.dl_codec.specs.Laws.{HasOneSpelling}
 use Rattle.dl_record.specs.declared.entry_flaw.EntryFlaw.{EntryFlaw}
 use Rattle.dl_record.specs.Reading.{◌>>=◌, or_short, field_at, allowed, end_at}
 
@@ -20,16 +22,9 @@ IsBytes-take n bytes h i = elim (cases_lt i n) [
 
 -- ---- steps
 
--- the value of a step that did not fail
-pub bind_ok : {A B : Type 0} (r : Result A EntryFlaw) (f : A → Result B EntryFlaw) (y : B) → (r >>= f) ≡ Ok y → (x : A) × (r ≡ Ok x) × (f x ≡ Ok y)
-bind_ok (Ok x) f y e = (x, refl, e)
-bind_ok (Err fault) f y e = absurd cc
-
+-- what a step that did not fail gives
 abbrev done : {A : Type 0} → A → Result A EntryFlaw
 done x = Ok x
-
-pub ok_is : {A : Type 0} (x y : A) → done x ≡ done y → x ≡ y
-ok_is x y e = cc
 
 -- a test that was passed
 pub chosen : {A : Type 0} (b : Bool) (fault : EntryFlaw) (r : Result A EntryFlaw) (y : A) → cond b (Err fault) r ≡ Ok y → (b ≡ false) × (r ≡ Ok y)
@@ -41,7 +36,8 @@ allowed_ok true fault n m e = (refl, cc)
 allowed_ok false fault n m e = absurd cc
 
 -- a number that passed its test
-pub checked_ok : (read : Result ℕ EntryFlaw) (p : ℕ → Bool) (fault : EntryFlaw) (m : ℕ) → (read >>= λ n. allowed (p n) fault n) ≡ Ok m → (read ≡ Ok m) × (p m ≡ true)
+pub checked_ok : (read : Result ℕ EntryFlaw) (p : ℕ → Bool) (fault : EntryFlaw) (m : ℕ) → (read >>= λ n. allowed (p n) fault n) ≡ Ok m
+    → (read ≡ Ok m) × (p m ≡ true)
 checked_ok read p fault m e =
     let u = bind_ok read (λ n. allowed (p n) fault n) m e in
     let v = allowed_ok (p u.0) fault u.0 m u.2 in
@@ -66,12 +62,14 @@ pub record Field (w : Width) (bytes : List ℕ) (at next n : ℕ) : Type 0 where
   pub room : next ≤ length bytes
   pub stands : drop at bytes ≡ field w n ++ drop next bytes
 
-pub field_found : (w : Width) → HasOneSpelling w → (bytes : List ℕ) (at next n : ℕ) → IsBytes bytes → next ≡ at + byte_len w → field_at w bytes at ≡ Ok n → Field w bytes at next n
+pub field_found : (w : Width) → HasOneSpelling w → (bytes : List ℕ) (at next n : ℕ) → IsBytes bytes → next ≡ at + byte_len w
+    → field_at w bytes at ≡ Ok n → Field w bytes at next n
 unfolding field_at number_at
 field_found w law bytes at next n fits place e =
     let k = byte_len w in
     let cells = take k (drop at bytes) in
-    let g = numbered (leb (at + k) (length bytes)) (number_of w cells) n (short_at at) (or_short_ok (cond (leb (at + k) (length bytes)) (number (number_of w cells)) (Err (short_at at))) n e) in
+    let g = numbered (leb (at + k) (length bytes)) (number_of w cells) n (short_at at)
+    (or_short_ok (cond (leb (at + k) (length bytes)) (number (number_of w cells)) (Err (short_at at))) n e) in
     let long : at + k ≤ length bytes = leb-true (at + k) (length bytes) g.0 in
     let cells-fit = IsBytes-take k (drop at bytes) (IsBytes-drop at bytes fits) in
     let len : length cells ≡ k = length-take-le k (drop at bytes) (omega (arith, length-drop at bytes)) in
@@ -80,7 +78,8 @@ field_found w law bytes at next n fits place e =
     record {
       fits = subst (λ (m : ℕ). m < 256 ^ k) g.1 (law.below cells cells-fit);
       room = omega arith;
-      stands = sym (take-append-drop k (drop at bytes)) ∙ ap (λ (l : List ℕ). l ++ drop k (drop at bytes)) (sym spelt) ∙ ap (λ (l : List ℕ). field w n ++ l) rest;
+      stands = sym (take-append-drop k (drop at bytes)) ∙ ap (λ (l : List ℕ). l ++ drop k (drop at bytes)) (sym spelt)
+          ∙ ap (λ (l : List ℕ). field w n ++ l) rest;
     }
 
 -- What a field that stands there reads as, and what stands behind it.
@@ -89,12 +88,14 @@ pub record FieldReads (w : Width) (bytes : List ℕ) (at next n : ℕ) (rest : L
   pub behind : drop next bytes ≡ rest
   pub room : next ≤ length bytes
 
-pub field_again : (w : Width) → HasOneSpelling w → 0 < byte_len w → (bytes : List ℕ) (at next n : ℕ) (rest : List ℕ) → next ≡ at + byte_len w → n < 256 ^ byte_len w → drop at bytes ≡ field w n ++ rest → FieldReads w bytes at next n rest
+pub field_again : (w : Width) → HasOneSpelling w → 0 < byte_len w → (bytes : List ℕ) (at next n : ℕ) (rest : List ℕ) → next ≡ at + byte_len w
+    → n < 256 ^ byte_len w → drop at bytes ≡ field w n ++ rest → FieldReads w bytes at next n rest
 unfolding field_at number_at
 field_again w law some bytes at next n rest place fits e =
     let k = byte_len w in
     let len = law.len n in
-    let sizes : length bytes - at ≡ k + length rest = sym (length-drop at bytes) ∙ ap length e ∙ length-append (field w n) rest ∙ ap (λ (m : ℕ). m + length rest) len in
+    let sizes : length bytes - at ≡ k + length rest =
+    sym (length-drop at bytes) ∙ ap length e ∙ length-append (field w n) rest ∙ ap (λ (m : ℕ). m + length rest) len in
     let long : at + k ≤ length bytes = omega arith in
     let test : leb (at + k) (length bytes) ≡ true = le-leb (at + k) (length bytes) long in
     let cells : take k (drop at bytes) ≡ field w n = ap (take k) e ∙ take_at (field w n) rest k len in

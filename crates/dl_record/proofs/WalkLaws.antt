@@ -45,17 +45,27 @@ rows_in_le (Set position txid payloads) = omega (arith, length-record_bytes (Set
 pub rows_le : (slot : ℕ) (rs : List Stored) → length (rows_from slot rs) ≤ length (flat_map record_bytes rs)
 rows_le slot [] = omega arith
 rows_le slot (r ∷ rs) =
-    omega (arith, rows_le (slot + rows_in r) rs, rows_in_le r, length-append (record_bytes r) (flat_map record_bytes rs), length-append (numbered slot (txid_of r) (payloads_of r)) (rows_from (slot + rows_in r) rs), length-numbered slot (txid_of r) (payloads_of r))
+    omega (
+      arith,
+      rows_le (slot + rows_in r) rs,
+      rows_in_le r,
+      length-append (record_bytes r) (flat_map record_bytes rs),
+      length-append
+          (numbered slot (txid_of r) (payloads_of r)) (rows_from (slot + rows_in r) rs),
+      length-numbered slot (txid_of r) (payloads_of r),
+    )
 
 -- ---- members
 
-members_walk_again : (ps : List (List ℕ)) (slot txid : ℕ) (bytes : List ℕ) (at : ℕ) (others : List RowOf) (more : List ℕ) → length (flat_map member_bytes ps) < 2 ^ 32 → drop at bytes ≡ flat_map member_bytes ps ++ more
+members_walk_again : (ps : List (List ℕ)) (slot txid : ℕ) (bytes : List ℕ) (at : ℕ) (others : List RowOf) (more : List ℕ)
+    → length (flat_map member_bytes ps) < 2 ^ 32 → drop at bytes ≡ flat_map member_bytes ps ++ more
     → members_walk (length ps) slot txid bytes at others ≡ numbered slot txid ps ++ others
 unfolding members_walk
 members_walk_again [] slot txid bytes at others more fits e = refl
 members_walk_again (p ∷ ps) slot txid bytes at others more fits e =
     let sizes = length-append (member_bytes p) (flat_map member_bytes ps) in
-    let one = member_again bytes at p (flat_map member_bytes ps ++ more) (omega (arith, fits, sizes, length-member_bytes p)) (e ∙ append_assoc (member_bytes p) (flat_map member_bytes ps) more) in
+    let one = member_again bytes at p (flat_map member_bytes ps ++ more) (omega (arith, fits, sizes, length-member_bytes p))
+    (e ∙ append_assoc (member_bytes p) (flat_map member_bytes ps) more) in
     let rest = members_walk_again ps (slot + 1) txid bytes (at + 4 + length p) others more (omega (arith, fits, sizes)) one.behind in
     rw (one.reads, one.is, rest) refl
 
@@ -63,13 +73,15 @@ pub record SetReads (bytes : List ℕ) (at : ℕ) (ps : List (List ℕ)) (rest :
   pub reads : members_count_at bytes (at + 2) ≡ Ok (length ps)
   pub behind : drop (at + 4) bytes ≡ flat_map member_bytes ps ++ rest
 
-set_reads : (bytes : List ℕ) (at : ℕ) (ps : List (List ℕ)) (rest : List ℕ) → 1 ≤ length ps → length ps ≤ MEMBERS_MAX → drop at bytes ≡ set_bytes ps ++ rest → SetReads bytes at ps rest
+set_reads : (bytes : List ℕ) (at : ℕ) (ps : List (List ℕ)) (rest : List ℕ) → 1 ≤ length ps → length ps ≤ MEMBERS_MAX
+    → drop at bytes ≡ set_bytes ps ++ rest → SetReads bytes at ps rest
 unfolding members_count_at set_bytes
 set_reads bytes at ps rest some most e =
     let members = flat_map member_bytes ps in
     let parts : drop at bytes ≡ field w8 0 ++ (field w8 0 ++ (field w16 (length ps) ++ (members ++ rest))) = e ∙ simp append_assoc in
     let fa = field_again w8 width_8 (omega arith) bytes at (at + 1) 0 (field w8 0 ++ (field w16 (length ps) ++ (members ++ rest))) refl (omega arith) parts in
-    let fb = field_again w8 width_8 (omega arith) bytes (at + 1) (at + 2) 0 (field w16 (length ps) ++ (members ++ rest)) (omega arith) (omega arith) fa.behind in
+    let fb = field_again w8 width_8 (omega arith) bytes (at + 1) (at + 2) 0 (field w16 (length ps) ++ (members ++ rest)) (omega arith)
+    (omega arith) fa.behind in
     let fd = field_again w16 width_16 (omega arith) bytes (at + 2) (at + 4) (length ps) (members ++ rest) (omega arith) (omega arith) fb.behind in
     let passes : (leb 1 (length ps) && leb (length ps) MEMBERS_MAX) ≡ true = grind (arith, nat_tests) in
     record { reads = rw (fd.reads, passes) refl; behind = fd.behind }
@@ -82,15 +94,18 @@ NoneBehind (Plain position txid payload) rows = Unit {0}
 NoneBehind (Control position txid) rows = rows ≡ []
 NoneBehind (Set position txid payloads) rows = Unit {0}
 
-kind_walk_again : (r : Stored) (slot : ℕ) (bytes : List ℕ) (at end : ℕ) (others : ℕ → List RowOf) (rest : List ℕ) → IsMembers r → length (payload_bytes r) ≤ PAYLOAD_MAX → end ≡ at + length (payload_bytes r)
-    → drop at bytes ≡ payload_bytes r ++ rest → NoneBehind r (others (slot + rows_in r)) → kind_walk (kind_in r) slot (txid_of r) bytes at end others ≡ numbered slot (txid_of r) (payloads_of r) ++ others (slot + rows_in r)
+kind_walk_again : (r : Stored) (slot : ℕ) (bytes : List ℕ) (at end : ℕ) (others : ℕ → List RowOf) (rest : List ℕ) → IsMembers r
+    → length (payload_bytes r) ≤ PAYLOAD_MAX → end ≡ at + length (payload_bytes r)
+    → drop at bytes ≡ payload_bytes r ++ rest → NoneBehind r (others (slot + rows_in r))
+    → kind_walk (kind_in r) slot (txid_of r) bytes at end others ≡ numbered slot (txid_of r) (payloads_of r) ++ others (slot + rows_in r)
 kind_walk_again (Plain position txid payload) slot bytes at end others rest members short place e none =
     let p = part_again bytes at end payload rest place e in
     rw (p.reads) refl
 kind_walk_again (Control position txid) slot bytes at end others rest members short place e none = sym none
 kind_walk_again (Set position txid payloads) slot bytes at end others rest members short place e none =
     let s = set_reads bytes at payloads rest members.0 members.1 e in
-    let m = members_walk_again payloads slot txid bytes (at + 4) (others (slot + length payloads)) rest (omega (arith, short, length-set_bytes payloads)) s.behind in
+    let m = members_walk_again payloads slot txid bytes (at + 4) (others (slot + length payloads)) rest
+    (omega (arith, short, length-set_bytes payloads)) s.behind in
     rw (s.reads) m
 
 fits_alone : (kind : Kind) → FitsKind true kind
@@ -98,13 +113,15 @@ fits_alone kinds.Plain = tt
 fits_alone kinds.Control = refl
 fits_alone kinds.Set = tt
 
-none_behind : (r : Stored) (rs : List Stored) (alone : Bool) (slot : ℕ) → IsAllowed alone r → (alone ≡ true → length (r ∷ rs) ≤ 1) → NoneBehind r (rows_from slot rs)
+none_behind : (r : Stored) (rs : List Stored) (alone : Bool) (slot : ℕ) → IsAllowed alone r → (alone ≡ true → length (r ∷ rs) ≤ 1)
+    → NoneBehind r (rows_from slot rs)
 none_behind (Plain position txid payload) rs alone slot allowed one = tt
 none_behind (Control position txid) [] alone slot allowed one = refl
 none_behind (Control position txid) (s ∷ rs) alone slot allowed one = absurd (omega (arith, one allowed))
 none_behind (Set position txid payloads) rs alone slot allowed one = tt
 
-records_walk_again : (rs : List Stored) (alone : Bool) (before : Option Stored) (slot : ℕ) (bytes : List ℕ) (at : ℕ) → AreRecords alone before rs → (alone ≡ true → length rs ≤ 1) → drop at bytes ≡ flat_map record_bytes rs
+records_walk_again : (rs : List Stored) (alone : Bool) (before : Option Stored) (slot : ℕ) (bytes : List ℕ) (at : ℕ) → AreRecords alone before rs
+    → (alone ≡ true → length rs ≤ 1) → drop at bytes ≡ flat_map record_bytes rs
     → records_walk (length rs) slot bytes at ≡ rows_from slot rs
 unfolding records_walk
 records_walk_again [] alone before slot bytes at are one e = refl
@@ -113,15 +130,20 @@ records_walk_again (r ∷ rs) alone before slot bytes at are one e =
     let payload = payload_bytes r in
     let size = length payload in
     let rest = flat_map record_bytes rs in
-    let stands : drop at bytes ≡ field w32 (position_of r) ++ (field w32 (kind_flags (kind_in r)) ++ (field w64 (txid_of r) ++ (field w32 size ++ (payload ++ rest)))) =
+    let stands : drop at bytes ≡ field w32
+    (position_of r) ++ (field w32 (kind_flags (kind_in r)) ++ (field w64 (txid_of r) ++ (field w32 size ++ (payload ++ rest)))) =
     e ∙ fields_and_payload-append (position_of r) (flags_of r) (txid_of r) payload rest
-    ∙ ap (λ (k : ℕ). field w32 (position_of r) ++ (field w32 k ++ (field w64 (txid_of r) ++ (field w32 size ++ (payload ++ rest))))) (sym (kind_flags-kind_in r)) in
-    let h = head_again true None bytes at (position_of r) (txid_of r) size (kind_in r) (payload ++ rest) is.position refl (fits_alone (kind_in r)) is.txid refl is.payload (kind_holds r) (omega (arith, length-append payload rest)) stands in
+    ∙ ap (λ (k : ℕ). field w32 (position_of r) ++ (field w32 k ++ (field w64 (txid_of r) ++ (field w32 size ++ (payload ++ rest)))))
+    (sym (kind_flags-kind_in r)) in
+    let h = head_again true None bytes at (position_of r) (txid_of r) size (kind_in r) (payload ++ rest) is.position refl
+    (fits_alone (kind_in r)) is.txid refl is.payload (kind_holds r) (omega (arith, length-append payload rest)) stands in
     let behind = part_again bytes (at + 20) (at + 20 + size) payload rest refl h.behind in
-    let more : (next : ℕ) → records_walk (length rs) next bytes (at + 20 + size) ≡ rows_from next rs = λ next. records_walk_again rs alone (Some r) next bytes (at + 20 + size) are.1.1.1 (λ a. omega (arith, one a)) behind.behind in
+    let more : (next : ℕ) → records_walk (length rs) next bytes (at + 20 + size) ≡ rows_from next rs =
+    λ next. records_walk_again rs alone (Some r) next bytes (at + 20 + size) are.1.1.1 (λ a. omega (arith, one a)) behind.behind in
     let none : NoneBehind r (records_walk (length rs) (slot + rows_in r) bytes (at + 20 + size)) =
     subst (λ (l : List RowOf). NoneBehind r l) (sym (more (slot + rows_in r))) (none_behind r rs alone (slot + rows_in r) are.1.0 one) in
-    let k = kind_walk_again r slot bytes (at + 20) (at + 20 + size) (λ next. records_walk (length rs) next bytes (at + 20 + size)) rest is.members is.payload refl h.behind none in
+    let k = kind_walk_again r slot bytes (at + 20) (at + 20 + size)
+    (λ next. records_walk (length rs) next bytes (at + 20 + size)) rest is.members is.payload refl h.behind none in
     rw (h.reads) (k ∙ ap (λ (l : List RowOf). numbered slot (txid_of r) (payloads_of r) ++ l) (more (slot + rows_in r)))
 
 -- ---- the entry
@@ -160,7 +182,8 @@ pub record WalkBegins (bytes : List ℕ) (parts : List Stored) (c : Cursor) : Ty
   pub rows : rows_left bytes c ≡ user_rows parts
   pub walk : IsWalk bytes c
 
-pub walk_begins : (bytes : List ℕ) (parts : List Stored) (n txid : ℕ) → IsEntry parts → bytes ≡ entry_bytes parts → ((m : ℕ) → field_at w16 bytes 2 ≡ Ok m → n ≡ m)
+pub walk_begins : (bytes : List ℕ) (parts : List Stored) (n txid : ℕ) → IsEntry parts → bytes ≡ entry_bytes parts
+    → ((m : ℕ) → field_at w16 bytes 2 ≡ Ok m → n ≡ m)
     → WalkBegins bytes parts (record { at = 8; records = n; slot = 0; members = 0; member_at = 0; txid = txid })
 unfolding members_walk
 walk_begins bytes parts n txid is spelt counts =

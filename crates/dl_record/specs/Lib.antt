@@ -7,3 +7,4 @@ pub mod Rows
 pub mod Walks
 pub mod RowViews
 pub mod Building
+pub mod Laws

@@ -1,6 +1,7 @@
 -- Reading an entry in the order of its bytes, up to the first flaw.
-use Rattle.std.specs.Prelude.{◌≡◌, ℕ, zero, suc, ◌+◌, Bool, true, ◌==◌, nat_le, nat_lt, ◌&&◌, not, Option, Some, None, Result, Ok, Err, List, [], ◌∷◌, length, take, slice_range, if◌then◌else◌, MatchOption}
+use Rattle.std.specs.Prelude.{◌≡◌, ℕ, zero, suc, ◌+◌, Bool, true, ◌==◌, nat_le, nat_lt, ◌&&◌, not, Option, Some, None, Result, Ok, Err, List, [], ◌∷◌, length, take, slice_range, if◌then◌else◌, IfSome}
 use Rattle.std.specs.Int.{Width, w8, w16, w32, w64}
+pub use Rattle.dl_reading.specs.Readings.{◌>>=◌, FaultBy, GivesBy}
 use Rattle.dl_types.specs.declared.txid.TheConstants.{MAX_TXID}
 use Rattle.dl_codec.specs.declared.short.Short as codec
 use Rattle.dl_codec.specs.Fields.{number_at}
@@ -18,20 +19,9 @@ use Rattle.dl_record.specs.Stored.{position_of, txid_of, rows_in}
 use Rattle.dl_record.specs.Flaws.{flaw_of}
 use Rattle.dl_record.specs.Grammar.{IsEntryBytes}
 
-infixl 10 ◌>>=◌
--- one step, and then another, unless the first one found a flaw
-abbrev pub ◌>>=◌ : {A B : Type 0} → Result A EntryFlaw → (A → Result B EntryFlaw) → Result B EntryFlaw
-(Ok x) >>= f = f x
-(Err flaw) >>= f = Err flaw
-
--- an error tells of the flaw that reading finds; want of memory tells nothing
-abbrev pub Fails : {Y : Type 0} → EntryFault → Result Y EntryFlaw → Type 0
-Fails fault read = MatchOption (flaw_of fault) (Unit {0}) (λ flaw. read ≡ Err flaw)
-
 -- what a function returned, seen by view, is what reading gives, unless memory ran out
 abbrev pub Gives : {X Y : Type 0} → (X → Y) → Result X EntryFault → Result Y EntryFlaw → Type 0
-Gives view (Ok x) read = read ≡ Ok (view x)
-Gives view (Err fault) read = Fails fault read
+Gives = GivesBy flaw_of
 
 -- a field of a codec as a field of an entry
 abbrev pub or_short : Result ℕ codec.Short → Result ℕ EntryFlaw
@@ -102,6 +92,7 @@ abbrev pub may_bear : Option Behind → ℕ → Bool
 may_bear None n = true
 may_bear (Some before) n = nat_le before.txid n
 
+-- the position of a record behind that one
 unfoldable pub position_at : Option Behind → List ℕ → ℕ → Result ℕ EntryFlaw
 position_at before bytes at = do
   n ← field_at w32 bytes at
@@ -115,11 +106,13 @@ kind_of alone at n =
     else if n == 1 && alone then Ok kinds.Control
     else Err (BadFlags at)
 
+-- the kind of a record
 unfoldable pub kind_at : Bool → List ℕ → ℕ → Result Kind EntryFlaw
 kind_at alone bytes at = do
   n ← field_at w32 bytes at
   kind_of alone at n
 
+-- the transaction id of a record behind that one
 unfoldable pub txid_at : Option Behind → List ℕ → ℕ → Result ℕ EntryFlaw
 txid_at before bytes at = do
   n ← field_at w64 bytes at
@@ -131,6 +124,7 @@ may_hold kinds.Plain n = true
 may_hold kinds.Set n = true
 may_hold kinds.Control n = n == 0
 
+-- the length of the payload of a record of this kind
 unfoldable pub length_at : Kind → List ℕ → ℕ → Result ℕ EntryFlaw
 length_at kind bytes at = do
   n ← field_at w32 bytes at
@@ -228,7 +222,7 @@ IsFlaw bytes flaw = (entry_at bytes ≡ Err flaw) × (IsEntryBytes bytes → ⊥
 
 -- an error names the flaw of the bytes; want of memory says nothing of them
 abbrev pub Refuses : List ℕ → EntryFault → Type 0
-Refuses bytes fault = MatchOption (flaw_of fault) (Unit {0}) (IsFlaw bytes)
+Refuses bytes fault = IfSome (flaw_of fault) (IsFlaw bytes)
 
 -- ---- what a check keeps of a reading
 

@@ -7,5 +7,6 @@ pub record RowOf : Type 0 where
   pub txid : ℕ
   pub payload : List ℕ
 
+-- the row of a slot
 abbrev pub row_of : (slot txid : ℕ) → List ℕ → RowOf
 row_of slot txid payload = record { slot = slot; txid = txid; payload = payload }

@@ -49,7 +49,8 @@ fn add_plain(
     payload: &[u8],
 ) -> Result<(), NoMemory>
     requires { length payload.now ≤ PAYLOAD_MAX }
-    ensures ok { OnOk result (out.new.items ≡ out.old.items ++ fields_and_payload position 0 txid payload.now) }
+    ensures ok { OnOk result (out.new.items ≡ out.old.items
+        ++ fields_and_payload position 0 txid payload.now) }
     ensures err { OnErr result (out.new.items ≡ out.old.items) }
     ensures bytes { IsBytes out.old.items }
 {
@@ -73,7 +74,8 @@ fn add_set(
 ) -> Result<(), NoMemory>
     requires members { length payloads.now ≤ MEMBERS_MAX }
     requires size { length (set_bytes payloads.now) ≤ PAYLOAD_MAX }
-    ensures ok { OnOk result (out.new.items ≡ out.old.items ++ fields_and_payload position 4 txid (set_bytes payloads.now)) }
+    ensures ok { OnOk result (out.new.items ≡ out.old.items
+        ++ fields_and_payload position 4 txid (set_bytes payloads.now)) }
     ensures err { OnErr result (out.new.items ≡ out.old.items) }
     ensures bytes { IsBytes out.old.items }
 {
@@ -99,7 +101,8 @@ fn make_room(alloc: Global) -> Result<Vec<u8>, NoMemory>
 fn take_entry(alloc: Global, out: &mut Vec<u8>, count: u16) -> Result<EntryBytes, NoMemory>
     requires room { 8 ≤ length out.old.items }
     requires size { length out.old.items ≤ ENTRY_MAX }
-    ensures entry { IfOk result (λ e. e ≡ header_bytes count (length out.old.items - 8) ++ drop 8 out.old.items) }
+    ensures entry { IfOk result
+        (λ e. e ≡ header_bytes count (length out.old.items - 8) ++ drop 8 out.old.items) }
     ensures empty { OnOk result (length out.new.items ≡ 8) }
     ensures len { OnErr result (length out.new.items ≡ length out.old.items) }
     ensures err { OnErr result (drop 8 out.new.items ≡ drop 8 out.old.items) }
@@ -120,7 +123,8 @@ fn take_entry(alloc: Global, out: &mut Vec<u8>, count: u16) -> Result<EntryBytes
 fn copy_entry(alloc: Global, out: &[u8], count: u16) -> Result<EntryBytes, NoMemory>
     requires room { 8 ≤ length out.now }
     requires size { length out.now ≤ ENTRY_MAX }
-    ensures entry { IfOk result (λ e. e ≡ header_bytes count (length out.now - 8) ++ drop 8 out.now) }
+    ensures entry { IfOk result
+        (λ e. e ≡ header_bytes count (length out.now - 8) ++ drop 8 out.now) }
     ensures bytes { IsBytes out.now }
 {
     let mut copy = Vec::from_slice(alloc, out)?;

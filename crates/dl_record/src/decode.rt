@@ -108,7 +108,8 @@ fn behind(stored: &Stored) -> Behind
 /// So many stored records behind the header, which end with the bytes.
 fn records_of(alloc: Global, count: u16, bytes: &[u8]) -> Result<Vec<Stored>, EntryFault>
     requires { 8 ≤ length bytes.now }
-    ensures { Gives (λ records. records.items) result (records_at count (count == 1) None bytes.now 8) }
+    ensures { Gives (λ records. records.items) result
+        (records_at count (count == 1) None bytes.now 8) }
 {
     let mut records = Vec::new(alloc);
     let mut before = None;
@@ -145,7 +146,8 @@ pub fn decode_entry(alloc: Global, bytes: &[u8]) -> Result<Records, EntryFault>
     // What is read is an entry, and the bytes are its one spelling.
     ensures found { IfOk result (λ parts. IsEntry parts × (bytes.now ≡ entry_bytes parts)) }
     // What spells an entry is read, unless memory runs out.
-    ensures only { (parts : List Stored) → IsEntry parts → bytes.now ≡ entry_bytes parts → Gives (λ x. x) result (Ok parts) }
+    ensures only { (parts : List Stored) → IsEntry parts → bytes.now ≡ entry_bytes parts
+        → Gives (λ x. x) result (Ok parts) }
     // The fault names the first flaw in the order of the bytes, and then they are no entry.
     ensures refused { IfErr result (Refuses bytes.now) }
 {

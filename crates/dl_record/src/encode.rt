@@ -29,7 +29,8 @@ fn put_fields(
     txid: TxId,
     size: u32,
 ) -> Result<(), NoMemory>
-    ensures ok { OnOk result (out.new.items ≡ out.old.items ++ (field w32 position ++ (field w32 flags ++ (field w64 txid ++ field w32 size)))) }
+    ensures ok { OnOk result (out.new.items ≡ out.old.items
+        ++ (field w32 position ++ (field w32 flags ++ (field w64 txid ++ field w32 size)))) }
     ensures err { OnErr result (take (length out.old.items) out.new.items ≡ out.old.items) }
 {
     put_u32(alloc, out, position)?;
@@ -50,7 +51,8 @@ pub(crate) fn put_payload(
     payload: &[u8],
 ) -> Result<(), NoMemory>
     requires { length payload.now ≤ PAYLOAD_MAX }
-    ensures ok { OnOk result (out.new.items ≡ out.old.items ++ fields_and_payload position flags txid payload.now) }
+    ensures ok { OnOk result (out.new.items ≡ out.old.items
+        ++ fields_and_payload position flags txid payload.now) }
     ensures err { OnErr result (take (length out.old.items) out.new.items ≡ out.old.items) }
 {
     put_fields(alloc, out, position, flags, txid, payload.len() as u32)?;
@@ -61,7 +63,8 @@ pub(crate) fn put_payload(
 /// How many bytes the payload of a record set of these members has, or none where they are more than a stored record may
 /// hold.
 pub fn set_size(payloads: &[Payload]) -> Option<u32>
-    ensures { SomeIff result (length (set_bytes payloads.now) ≤ PAYLOAD_MAX) (length (set_bytes payloads.now)) }
+    ensures { SomeIff result (length (set_bytes payloads.now) ≤ PAYLOAD_MAX)
+        (length (set_bytes payloads.now)) }
 {
     let mut size = 4;
     for payload in payloads {
@@ -102,7 +105,8 @@ fn write_header(out: &mut [u8], count: u16, size: u32)
 pub(crate) fn close_entry(out: &mut Vec<u8>, count: u16)
     requires room { 8 ≤ length out.old.items }
     requires size { length out.old.items ≤ ENTRY_MAX }
-    ensures bytes { out.new.items ≡ header_bytes count (length out.old.items - 8) ++ drop 8 out.old.items }
+    ensures bytes { out.new.items ≡ header_bytes count (length out.old.items - 8)
+        ++ drop 8 out.old.items }
     ensures len { length out.new.items ≡ length out.old.items }
 {
     let size = (out.len() - HEADER) as u32;
@@ -120,7 +124,8 @@ pub(crate) fn put_set(
 ) -> Result<(), NoMemory>
     requires members { length payloads.now ≤ MEMBERS_MAX }
     requires size { length (set_bytes payloads.now) ≤ PAYLOAD_MAX }
-    ensures ok { OnOk result (out.new.items ≡ out.old.items ++ fields_and_payload position 4 txid (set_bytes payloads.now)) }
+    ensures ok { OnOk result (out.new.items ≡ out.old.items
+        ++ fields_and_payload position 4 txid (set_bytes payloads.now)) }
     ensures err { OnErr result (take (length out.old.items) out.new.items ≡ out.old.items) }
 {
     let Some(size) = set_size(payloads) else {

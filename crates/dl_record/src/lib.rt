@@ -11,7 +11,7 @@ pub mod entry_flaw;
 mod fields;
 mod head;
 mod kind;
-pub mod law;
+pub mod laws;
 pub mod limits;
 pub mod records;
 mod sets;

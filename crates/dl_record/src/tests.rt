@@ -9,7 +9,8 @@ use crate::stored::Stored;
 use crate::walk::RowWalk;
 use dl_types::payload::Payload;
 use dl_types::txid::TxId;
-use spoilt::{ADDED, CHANGED, CUT, CUT_SHORT, ENTRY};
+use spoilt::{ENTRY, added, changed, cut_off, cut_short};
+use std::alloc::Global;
 use std::test::Fail;
 
 /// One record at position 0 with the id 5 and the payload `hi`.
@@ -23,19 +24,22 @@ const CONTROL: [u8; 28] = [
     1, 0, 0, 1, 0, 0, 0, 0x14, 0, 0, 0, 1, 0, 0, 0, 1, 0, 0, 0, 0, 0, 0, 0, 5, 0, 0, 0, 0,
 ];
 
-/// A letter for the fault that is found, or `O` for none, and its place.
-fn outcome(rt: &HostRuntime, bytes: &[u8]) -> (u8, usize) {
-    match decode_entry(rt.alloc(), bytes) {
-        Ok(_) => (b'O', 0),
-        Err(EntryFault::NoMemory) => (b'M', 0),
-        Err(EntryFault::BadFlags { at }) => (b'F', at),
-        Err(EntryFault::Compressed { at }) => (b'C', at),
-        Err(EntryFault::Short { at }) => (b'S', at),
-        Err(EntryFault::TooLong { at }) => (b'T', at),
-        Err(EntryFault::BadCount { at }) => (b'B', at),
-        Err(EntryFault::TxidBack { at }) => (b'X', at),
-        Err(EntryFault::Long { at }) => (b'L', at),
-    }
+/// A letter for the fault that is found and its place, or `O0` for none.
+fn outcome(alloc: Global, bytes: &[u8]) -> Result<String, Fail> {
+    let (letter, at) = match decode_entry(alloc, bytes) {
+        Ok(_) => ('O', 0),
+        Err(EntryFault::NoMemory) => ('M', 0),
+        Err(EntryFault::BadFlags { at }) => ('F', at),
+        Err(EntryFault::Compressed { at }) => ('C', at),
+        Err(EntryFault::Short { at }) => ('S', at),
+        Err(EntryFault::TooLong { at }) => ('T', at),
+        Err(EntryFault::BadCount { at }) => ('B', at),
+        Err(EntryFault::TxidBack { at }) => ('X', at),
+        Err(EntryFault::Long { at }) => ('L', at),
+    };
+    let mut out = String::new(alloc);
+    write!(out, "{letter}{at}")?;
+    Ok(out)
 }
 
 #[test]
@@ -73,20 +77,20 @@ fn finds_the_first_fault(rt: HostRuntime) -> Result<(), Fail> {
     let alloc = rt.alloc();
     let mut bytes = FIRST.to_vec(alloc)?;
     bytes[1] = 1;
-    assert_eq!(rt; outcome(&rt, &bytes), (b'C', 1));
-    assert_eq!(rt; outcome(&rt, &FIRST[..29]), (b'S', 4));
+    assert_eq!(rt; outcome(alloc, &bytes)?.as_str(), "C1");
+    assert_eq!(rt; outcome(alloc, &FIRST[..29])?.as_str(), "S4");
     let mut bytes = FIRST.to_vec(alloc)?;
     bytes.push(0)?;
-    assert_eq!(rt; outcome(&rt, &bytes), (b'L', 30));
+    assert_eq!(rt; outcome(alloc, &bytes)?.as_str(), "L30");
     let mut bytes = FIRST.to_vec(alloc)?;
     bytes[15] = 2;
-    assert_eq!(rt; outcome(&rt, &bytes), (b'F', 12));
+    assert_eq!(rt; outcome(alloc, &bytes)?.as_str(), "F12");
     Ok(())
 }
 
 /// The first bytes of the entry, with this many said to follow the header, and more behind them.
-fn cut(rt: &HostRuntime, len: usize, size: u8, more: &[u8]) -> Result<Vec<u8>, Fail> {
-    let mut bytes = Vec::new(rt.alloc());
+fn cut(alloc: Global, len: usize, size: u8, more: &[u8]) -> Result<Vec<u8>, Fail> {
+    let mut bytes = Vec::new(alloc);
     for byte in ENTRY.iter().take(len) {
         bytes.push(*byte)?;
     }
@@ -99,33 +103,42 @@ fn cut(rt: &HostRuntime, len: usize, size: u8, more: &[u8]) -> Result<Vec<u8>, F
 
 #[test]
 fn finds_what_is_spoilt(rt: HostRuntime) -> Result<(), Fail> {
+    let alloc = rt.alloc();
     let mut place = 0usize;
-    for expected in CHANGED.iter() {
-        let mut bytes = ENTRY.to_vec(rt.alloc())?;
+    for want in changed().split_whitespace() {
+        let mut bytes = ENTRY.to_vec(alloc)?;
         if let Some(byte) = bytes.get_mut(place) {
             *byte ^= 1;
         }
-        assert_eq!(rt; outcome(&rt, &bytes), *expected, "byte {place}");
+        assert_eq!(rt; outcome(alloc, &bytes)?.as_str(), want, "byte {place}");
         place = place.saturating_add(1);
     }
+    assert_eq!(rt; place, 86);
+    Ok(())
+}
+
+#[test]
+fn finds_what_is_cut_off(rt: HostRuntime) -> Result<(), Fail> {
+    let alloc = rt.alloc();
     let mut len = 0usize;
-    for expected in CUT.iter() {
-        let bytes = cut(&rt, len, 78, b"")?;
-        assert_eq!(rt; outcome(&rt, &bytes), *expected, "cut at {len}");
+    for want in cut_off().split_whitespace() {
+        let bytes = cut(alloc, len, 78, b"")?;
+        assert_eq!(rt; outcome(alloc, &bytes)?.as_str(), want, "cut at {len}");
         len = len.saturating_add(1);
     }
+    assert_eq!(rt; len, 86);
     let mut size = 0u8;
-    for expected in CUT_SHORT.iter() {
-        let bytes = cut(&rt, usize::from(size).saturating_add(8), size, b"")?;
-        assert_eq!(rt; outcome(&rt, &bytes), *expected, "cut at 8 + {size}");
+    for want in cut_short().split_whitespace() {
+        let bytes = cut(alloc, usize::from(size).saturating_add(8), size, b"")?;
+        assert_eq!(rt; outcome(alloc, &bytes)?.as_str(), want, "cut at 8 + {size}");
         size = size.saturating_add(1);
     }
-    let mut size = 78u8;
-    for expected in ADDED.iter() {
-        let bytes = cut(&rt, 86, size, b"\0")?;
-        assert_eq!(rt; outcome(&rt, &bytes), *expected, "added with {size}");
+    for want in added().split_whitespace() {
+        let bytes = cut(alloc, 86, size, b"\0")?;
+        assert_eq!(rt; outcome(alloc, &bytes)?.as_str(), want, "added with {size}");
         size = size.saturating_add(1);
     }
+    assert_eq!(rt; size, 80);
     Ok(())
 }
 

@@ -29,7 +29,9 @@ struct Step<'a> {
 fn member_step<'a>(bytes: &'a [u8], cursor: &Cursor) -> Option<Step<'a>>
     requires walk { IsWalk bytes.now cursor.now }
     requires some { 0 < cursor.now.members }
-    ensures { MatchOption result (rows_left bytes.now cursor.now ≡ []) (λ x. (rows_left bytes.now cursor.now ≡ row_view x.row ∷ rows_left bytes.now x.next) × (x.next.slot ≡ cursor.now.slot + 1) × (x.next.at ≤ length bytes.now)) }
+    ensures { MatchOption result (rows_left bytes.now cursor.now ≡ [])
+        (λ x. (rows_left bytes.now cursor.now ≡ row_view x.row ∷ rows_left bytes.now x.next)
+        × (x.next.slot ≡ cursor.now.slot + 1) × (x.next.at ≤ length bytes.now)) }
 {
     match member_end_of(bytes, cursor.member_at) {
         Err(_) => None,
@@ -57,7 +59,9 @@ fn record_step<'a>(bytes: &'a [u8], cursor: &Cursor) -> Option<Step<'a>>
     requires walk { IsWalk bytes.now cursor.now }
     requires none { cursor.now.members ≡ 0 }
     requires some { 0 < cursor.now.records }
-    ensures { MatchOption result (rows_left bytes.now cursor.now ≡ []) (λ x. (rows_left bytes.now cursor.now ≡ row_view x.row ∷ rows_left bytes.now x.next) × (x.next.slot ≡ cursor.now.slot + 1) × (x.next.at ≤ length bytes.now)) }
+    ensures { MatchOption result (rows_left bytes.now cursor.now ≡ [])
+        (λ x. (rows_left bytes.now cursor.now ≡ row_view x.row ∷ rows_left bytes.now x.next)
+        × (x.next.slot ≡ cursor.now.slot + 1) × (x.next.at ≤ length bytes.now)) }
 {
     let head = match head_of(true, None, bytes, cursor.at) {
         Err(_) => return None,
@@ -101,7 +105,9 @@ fn record_step<'a>(bytes: &'a [u8], cursor: &Cursor) -> Option<Step<'a>>
 #[tactic(auto, unfolding(crate::specs::Rows::members_walk, crate::specs::Rows::records_walk))]
 fn step_of<'a>(bytes: &'a [u8], cursor: &Cursor) -> Option<Step<'a>>
     requires { IsWalk bytes.now cursor.now }
-    ensures { MatchOption result (rows_left bytes.now cursor.now ≡ []) (λ x. (rows_left bytes.now cursor.now ≡ row_view x.row ∷ rows_left bytes.now x.next) × IsWalk bytes.now x.next) }
+    ensures { MatchOption result (rows_left bytes.now cursor.now ≡ [])
+        (λ x. (rows_left bytes.now cursor.now ≡ row_view x.row ∷ rows_left bytes.now x.next)
+        × IsWalk bytes.now x.next) }
 {
     if cursor.members > 0 {
         member_step(bytes, cursor)
@@ -147,7 +153,8 @@ impl<'a> RowWalk<'a> {
     /// A walk over the rows of the entry that these bytes spell.
     pub fn new(bytes: &'a [u8]) -> RowWalk<'a>
         requires { IsEntryBytes bytes.now }
-        ensures { (parts : List Stored) → IsEntry parts → bytes.now ≡ entry_bytes parts → result ≡ user_rows parts }
+        ensures { (parts : List Stored) → IsEntry parts → bytes.now ≡ entry_bytes parts
+            → result ≡ user_rows parts }
     {
         RowWalk {
             bytes,

@@ -33,6 +33,7 @@ use Rattle.dl_tree_msg.proofs.KindLemmas.{why_kind_exact, answer_kind_exact, out
 abbrev IsWhyOf : WhyKind → Why → Type 0
 IsWhyOf k w = IsWhy w × (why_kind w ≡ k)
 
+-- what stands behind a kind of reason is read exactly
 why_rest_exact : (k : WhyKind) → Exact (IsWhyOf k) why_rest (why_rest_from k)
 why_rest_exact reason.NoNode = nothing_exact why.NoNode (IsWhyOf reason.NoNode) why_rest (tt, refl) refl from
   where
@@ -65,6 +66,7 @@ why_rest_exact reason.Spent = nothing_exact why.Spent (IsWhyOf reason.Spent) why
     from why.Spent v = refl
     from _ v = absurd (let e = v.1 in cc)
 
+-- a reason is read exactly
 why_exact : Exact IsWhy why_bytes why_from
 why_exact = kinded_exact why_kind IsWhy why_rest why_rest_from why_kind_exact why_rest_exact
 
@@ -74,9 +76,11 @@ why_exact = kinded_exact why_kind IsWhy why_rest why_rest_from why_kind_exact wh
 abbrev IsAnswerOf : AnswerKind → OneAnswer → Type 0
 IsAnswerOf k a = IsAnswer a × (answer_kind a ≡ k)
 
+-- names behind their count are read exactly
 names_exact : Exact (λ names. Fits w32 (length names) × AllByRecursion IsPart names) (list_bytes w32 (counted w16)) names_from
 names_exact = list_exact IsPart (counted w16) name_from name_exact (Fits w32) w32 (number_from w32) u32_exact
 
+-- what stands behind a kind of answer is read exactly
 answer_rest_exact : (k : AnswerKind) → Exact (IsAnswerOf k) answer_rest (answer_rest_from k)
 answer_rest_exact answer.Made = made_exact _ _ _ one.Made (IsAnswerOf answer.Made) answer_rest path_exact (λ x v. ((v, refl), refl)) from
   where
@@ -93,7 +97,8 @@ answer_rest_exact answer.Version = made_exact _ _ _ one.Version (IsAnswerOf answ
     from : (a : OneAnswer) → IsAnswerOf answer.Version a → (n : ℕ) × Fits w64 n × (one.Version n ≡ a)
     from (one.Version n) w = (n, w.0, refl)
     from _ w = absurd (let e = w.1 in cc)
-answer_rest_exact answer.Bytes = made_exact _ _ _ (λ x. one.Bytes x.0 x.1) (IsAnswerOf answer.Bytes) answer_rest (also_exact run32_exact u64_exact) (λ x v. ((v, refl), refl)) from
+answer_rest_exact answer.Bytes =
+    made_exact _ _ _ (λ x. one.Bytes x.0 x.1) (IsAnswerOf answer.Bytes) answer_rest (also_exact run32_exact u64_exact) (λ x v. ((v, refl), refl)) from
   where
     from : (a : OneAnswer) → IsAnswerOf answer.Bytes a → (x : List ℕ × ℕ) × (IsCounted w32 x.0 × Fits w64 x.1) × (one.Bytes x.0 x.1 ≡ a)
     from (one.Bytes bytes version) w = ((bytes, version), w.0, refl)
@@ -110,6 +115,7 @@ answer_exact = kinded_exact answer_kind IsAnswer answer_rest answer_rest_from an
 
 -- ---- the answer to a request
 
+-- answers behind their count are read exactly
 answers_exact : Exact (λ answers. Fits w16 (length answers) × AllByRecursion IsAnswer answers) (list_bytes w16 answer_bytes) answers_from
 answers_exact = list_exact IsAnswer answer_bytes answer_from answer_exact (Fits w16) w16 (number_from w16) u16_exact
 
@@ -117,18 +123,22 @@ answers_exact = list_exact IsAnswer answer_bytes answer_from answer_exact (Fits 
 abbrev IsOutcomeOf : OutcomeKind → MetaAnswer → Type 0
 IsOutcomeOf k a = IsOutcome a × (outcome_kind a ≡ k)
 
+-- what stands behind a kind of answer to a request is read exactly
 outcome_rest_exact : (k : OutcomeKind) → Exact (IsOutcomeOf k) outcome_rest (outcome_rest_from k)
-outcome_rest_exact (outcome.One k) = made_exact _ _ _ meta.One (IsOutcomeOf (outcome.One k)) outcome_rest (answer_rest_exact k) (λ a v. ((v.0, ap outcome.One v.1), refl)) from
+outcome_rest_exact (outcome.One k) =
+    made_exact _ _ _ meta.One (IsOutcomeOf (outcome.One k)) outcome_rest (answer_rest_exact k) (λ a v. ((v.0, ap outcome.One v.1), refl)) from
   where
     from : (r : MetaAnswer) → IsOutcomeOf (outcome.One k) r → (a : OneAnswer) × IsAnswerOf k a × (meta.One a ≡ r)
     from (meta.One a) w = (a, (w.0, (let e : outcome.One (answer_kind a) ≡ outcome.One k = w.1 in cc)), refl)
     from _ w = absurd (let e = w.1 in cc)
 outcome_rest_exact outcome.Many = made_exact _ _ _ meta.Many (IsOutcomeOf outcome.Many) outcome_rest answers_exact (λ answers v. ((v, refl), refl)) from
   where
-    from : (r : MetaAnswer) → IsOutcomeOf outcome.Many r → (answers : List OneAnswer) × (Fits w16 (length answers) × AllByRecursion IsAnswer answers) × (meta.Many answers ≡ r)
+    from : (r : MetaAnswer) → IsOutcomeOf outcome.Many r
+        → (answers : List OneAnswer) × (Fits w16 (length answers) × AllByRecursion IsAnswer answers) × (meta.Many answers ≡ r)
     from (meta.Many answers) w = (answers, w.0, refl)
     from _ w = absurd (let e = w.1 in cc)
-outcome_rest_exact outcome.Failed = made_exact _ _ _ (λ x. meta.Failed x.0 x.1) (IsOutcomeOf outcome.Failed) outcome_rest (also_exact u16_exact why_exact) (λ x v. ((v, refl), refl)) from
+outcome_rest_exact outcome.Failed =
+    made_exact _ _ _ (λ x. meta.Failed x.0 x.1) (IsOutcomeOf outcome.Failed) outcome_rest (also_exact u16_exact why_exact) (λ x v. ((v, refl), refl)) from
   where
     from : (r : MetaAnswer) → IsOutcomeOf outcome.Failed r → (x : ℕ × Why) × (Fits w16 x.0 × IsWhy x.1) × (meta.Failed x.0 x.1 ≡ r)
     from (meta.Failed place w) v = ((place, w), v.0, refl)

@@ -1,7 +1,7 @@
 -- Kinds and versions are read exactly.
 use Rattle.std.proofs.Common.{◌≡◌, ℕ, Bool, true, false, Option, Some, None, refl, lit<}
 use Rattle.std.specs.Int.{w64}
-use Rattle.dl_fields.specs.Readers.{map_from, Exact}
+use Rattle.dl_fields.specs.Readers.{map_at, Exact}
 use Rattle.dl_fields.specs.Fields.{Fits}
 use Rattle.dl_fields.specs.Codes.{code_byte, code_from}
 use Rattle.dl_fields.proofs.ReaderLemmas.{made_exact}
@@ -57,7 +57,8 @@ mode_coded mode.Counted = ((2, lit< tt, refl), (refl, lit< tt))
 mode_coded mode.EphemeralCounted = ((3, lit< tt, refl), (refl, lit< tt))
 
 -- They are read exactly.
-pub mode_exact : Exact (λ (m : Mode). Unit {0}) (λ m. code_byte mode_field_code (mode_field m)) (map_from (λ field. field.mode) (code_from mode_field_code mode_fields))
+pub mode_exact : Exact (λ (m : Mode). Unit {0}) (λ m. code_byte mode_field_code (mode_field m))
+    (map_at (λ field. field.mode) (code_from mode_field_code mode_fields))
 mode_exact = made_exact _ _ _ (λ field. field.mode) (λ m. Unit {0}) (λ m. code_byte mode_field_code (mode_field m))
     (kinds_exact mode_field_code mode_fields (λ field. mode_coded field.mode)) (λ field v. (tt, refl)) (λ m w. (mode_field m, tt, refl))
 

@@ -60,7 +60,8 @@ create_exact : (t : List ℕ → Bool) → Exact (IsOpOf t op.Create) op_rest cr
 create_exact t = made_exact _ _ _ (λ x. one.Create x.1.0 x.1.1 x.0) (IsOpOf t op.Create) op_rest
     (then_exact _ _ _ _ _ _ mode_exact (λ m u. also_exact (new_path_exact m) run32_exact)) (λ x v. (((v.1, tt), refl), refl)) from
   where
-    from : (o : OneOp) → IsOpOf t op.Create o → (x : Mode × (List ℕ × List ℕ)) × (Unit {0} × (IsNewPath x.0 x.1.0 × IsCounted w32 x.1.1)) × (one.Create x.1.0 x.1.1 x.0 ≡ o)
+    from : (o : OneOp) → IsOpOf t op.Create o
+        → (x : Mode × (List ℕ × List ℕ)) × (Unit {0} × (IsNewPath x.0 x.1.0 × IsCounted w32 x.1.1)) × (one.Create x.1.0 x.1.1 x.0 ≡ o)
     from (one.Create path bytes m) w = ((m, (path, bytes)), (tt, w.0.0), refl)
     from _ w = absurd (let e = w.1 in cc)
 
@@ -78,13 +79,15 @@ set_exact : (t : List ℕ → Bool) → Exact (IsOpOf t op.Set) op_rest (set_fro
 set_exact t = made_exact _ _ _ (λ x. one.Set x.0 x.1.0 x.1.1) (IsOpOf t op.Set) op_rest
     (also_exact (allowed_path_exact t) (also_exact run32_exact version_exact)) (λ x v. ((((v.0.0, v.1), v.0.1), refl), refl)) from
   where
-    from : (o : OneOp) → IsOpOf t op.Set o → (x : List ℕ × (List ℕ × Option ℕ)) × (IsPathIn t x.0 × (IsCounted w32 x.1.0 × IsVersion x.1.1)) × (one.Set x.0 x.1.0 x.1.1 ≡ o)
+    from : (o : OneOp) → IsOpOf t op.Set o
+        → (x : List ℕ × (List ℕ × Option ℕ)) × (IsPathIn t x.0 × (IsCounted w32 x.1.0 × IsVersion x.1.1)) × (one.Set x.0 x.1.0 x.1.1 ≡ o)
     from (one.Set path bytes version) w = ((path, (bytes, version)), ((w.0.0.0, w.0.1), w.0.0.1), refl)
     from _ w = absurd (let e = w.1 in cc)
 
 -- a check
 check_exact : (t : List ℕ → Bool) → Exact (IsOpOf t op.Check) op_rest check_from
-check_exact t = made_exact _ _ _ (λ x. one.Check x.0 x.1) (IsOpOf t op.Check) op_rest (also_exact path_exact version_exact) (λ x v. (((v, tt), refl), refl)) from
+check_exact t = made_exact _ _ _ (λ x. one.Check x.0 x.1) (IsOpOf t op.Check) op_rest (also_exact path_exact version_exact)
+    (λ x v. (((v, tt), refl), refl)) from
   where
     from : (o : OneOp) → IsOpOf t op.Check o → (x : List ℕ × Option ℕ) × (IsPathField x.0 × IsVersion x.1) × (one.Check x.0 x.1 ≡ o)
     from (one.Check path version) w = ((path, version), w.0.0, refl)
@@ -140,6 +143,7 @@ all_both V W (x ∷ xs) v w = ((v.0, w.0), all_both V W xs v.1 w.1)
 abbrev AreOpsIn : (List ℕ → Bool) → List OneOp → Type 0
 AreOpsIn t ops = IsOpCount (length ops) × AllByRecursion (IsOpIn t) ops
 
+-- operations behind their count are read exactly
 ops_exact : (t : List ℕ → Bool) → Exact (AreOpsIn t) (list_bytes w16 op_bytes) (ops_from t)
 ops_exact t = list_exact (IsOpIn t) op_bytes (op_from t) (op_exact t) IsOpCount w16 op_count_from op_count_exact
 
@@ -151,8 +155,10 @@ IsRequestIn t r = IsRequest r × IsAllowed t r
 abbrev IsRequestOf : (List ℕ → Bool) → RequestKind → MetaOp → Type 0
 IsRequestOf t k r = IsRequestIn t r × (request_kind r ≡ k)
 
+-- what stands behind a kind of request is read exactly
 request_rest_exact : (t : List ℕ → Bool) (k : RequestKind) → Exact (IsRequestOf t k) request_rest (request_rest_from t k)
-request_rest_exact t (request.One k) = made_exact _ _ _ meta.One (IsRequestOf t (request.One k)) request_rest (op_rest_exact t k) (λ o v. ((v.0, ap request.One v.1), refl)) from
+request_rest_exact t (request.One k) =
+    made_exact _ _ _ meta.One (IsRequestOf t (request.One k)) request_rest (op_rest_exact t k) (λ o v. ((v.0, ap request.One v.1), refl)) from
   where
     from : (r : MetaOp) → IsRequestOf t (request.One k) r → (o : OneOp) × IsOpOf t k o × (meta.One o ≡ r)
     from (meta.One o) w = (o, (w.0, (let e : request.One (op_kind o) ≡ request.One k = w.1 in cc)), refl)

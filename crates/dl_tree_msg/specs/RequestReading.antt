@@ -8,7 +8,7 @@ use Rattle.dl_types.specs.declared.one_op.OneOp.TheVariants as one
 use Rattle.dl_types.specs.declared.meta_op.MetaOp.{MetaOp}
 use Rattle.dl_types.specs.declared.meta_op.MetaOp.TheVariants as meta
 use Rattle.dl_fields.specs.declared.fault.Fault.{Fault}
-use Rattle.dl_fields.specs.Readers.{then_from, map_from, passing}
+use Rattle.dl_fields.specs.Readers.{then_at, map_at, passing}
 use Rattle.dl_fields.specs.Fields.{number_from, counted_from}
 use Rattle.dl_fields.specs.Codes.{code_from}
 use Rattle.dl_fields.specs.Lists.{list_from}
@@ -24,7 +24,7 @@ use Rattle.dl_tree_msg.specs.Versions.{version_from}
 
 -- the mode of a creation
 abbrev pub mode_from : List ℕ → Result (Mode × List ℕ) Fault
-mode_from = map_from (λ field. field.mode) (code_from mode_field_code mode_fields)
+mode_from = map_at (λ field. field.mode) (code_from mode_field_code mode_fields)
 
 -- the path of a node to be made: with a counted mode it has room for ten digits
 abbrev pub new_path_from : Mode → List ℕ → Result (List ℕ × List ℕ) Fault
@@ -39,27 +39,30 @@ allowed_path_from allowed = passing allowed path_from
 
 -- a creation
 abbrev pub create_from : List ℕ → Result (OneOp × List ℕ) Fault
-create_from = map_from (λ x. one.Create x.1.0 x.1.1 x.0) (then_from mode_from (λ m. then_from (new_path_from m) (λ path. counted_from w32)))
+create_from = map_at (λ (mode, (path, bytes)). one.Create path bytes mode)
+    (then_at mode_from (λ m. then_at (new_path_from m) (λ path. counted_from w32)))
 
 -- a deletion
 abbrev pub delete_from : (List ℕ → Bool) → List ℕ → Result (OneOp × List ℕ) Fault
-delete_from allowed = map_from (λ x. one.Delete x.0 x.1) (then_from (allowed_path_from allowed) (λ path. version_from))
+delete_from allowed = map_at (λ (path, version). one.Delete path version)
+    (then_at (allowed_path_from allowed) (λ path. version_from))
 
 -- a set
 abbrev pub set_from : (List ℕ → Bool) → List ℕ → Result (OneOp × List ℕ) Fault
-set_from allowed = map_from (λ x. one.Set x.0 x.1.0 x.1.1) (then_from (allowed_path_from allowed) (λ path. then_from (counted_from w32) (λ bytes. version_from)))
+set_from allowed = map_at (λ (path, (bytes, version)). one.Set path bytes version)
+    (then_at (allowed_path_from allowed) (λ path. then_at (counted_from w32) (λ bytes. version_from)))
 
 -- a check
 abbrev pub check_from : List ℕ → Result (OneOp × List ℕ) Fault
-check_from = map_from (λ x. one.Check x.0 x.1) (then_from path_from (λ path. version_from))
+check_from = map_at (λ (path, version). one.Check path version) (then_at path_from (λ path. version_from))
 
 -- a look at the bytes
 abbrev pub get_from : List ℕ → Result (OneOp × List ℕ) Fault
-get_from = map_from one.Get path_from
+get_from = map_at one.Get path_from
 
 -- a look at the children
 abbrev pub children_from : List ℕ → Result (OneOp × List ℕ) Fault
-children_from = map_from one.Children path_from
+children_from = map_at one.Children path_from
 
 -- an operation behind its kind
 abbrev pub op_rest_from : (List ℕ → Bool) → OpKind → List ℕ → Result (OneOp × List ℕ) Fault
@@ -72,7 +75,7 @@ op_rest_from allowed op.Children = children_from
 
 -- an operation
 abbrev pub op_from : (List ℕ → Bool) → List ℕ → Result (OneOp × List ℕ) Fault
-op_from allowed = map_from (λ x. x.1) (then_from (code_from op_code op_kinds) (op_rest_from allowed))
+op_from allowed = map_at (λ (kind, op). op) (then_at (code_from op_code op_kinds) (op_rest_from allowed))
 
 -- ---- a request: one operation, or several
 
@@ -86,9 +89,10 @@ ops_from allowed = list_from op_count_from (op_from allowed)
 
 -- a request behind its kind
 abbrev pub request_rest_from : (List ℕ → Bool) → RequestKind → List ℕ → Result (MetaOp × List ℕ) Fault
-request_rest_from allowed (request.One k) = map_from meta.One (op_rest_from allowed k)
-request_rest_from allowed request.Multi = map_from meta.Multi (ops_from allowed)
+request_rest_from allowed (request.One k) = map_at meta.One (op_rest_from allowed k)
+request_rest_from allowed request.Multi = map_at meta.Multi (ops_from allowed)
 
 -- a request
 abbrev pub request_from : (List ℕ → Bool) → List ℕ → Result (MetaOp × List ℕ) Fault
-request_from allowed = map_from (λ x. x.1) (then_from (code_from request_code request_kinds) (request_rest_from allowed))
+request_from allowed =
+    map_at (λ (kind, request). request) (then_at (code_from request_code request_kinds) (request_rest_from allowed))

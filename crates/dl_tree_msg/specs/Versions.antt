@@ -3,7 +3,7 @@ use Rattle.std.specs.Prelude.{ℕ, Bool, true, false, Option, Some, None, List, 
 use Rattle.std.specs.Int.{w64}
 use Rattle.dl_codec.specs.Fields.{field}
 use Rattle.dl_fields.specs.declared.fault.Fault.{Fault}
-use Rattle.dl_fields.specs.Readers.{then_from, map_from, nothing_from}
+use Rattle.dl_fields.specs.Readers.{then_at, map_at, nothing_from}
 use Rattle.dl_fields.specs.Fields.{number_from, Fits}
 use Rattle.dl_fields.specs.Flags.{flag_byte, flag_from}
 
@@ -29,8 +29,8 @@ IsVersion (Some version) = Fits w64 version
 -- a version behind the flag
 abbrev pub version_rest_from : Bool → List ℕ → Result (Option ℕ × List ℕ) Fault
 version_rest_from false = nothing_from None
-version_rest_from true = map_from Some (number_from w64)
+version_rest_from true = map_at Some (number_from w64)
 
 -- a version that is named, or none
 abbrev pub version_from : List ℕ → Result (Option ℕ × List ℕ) Fault
-version_from = map_from (λ x. x.1) (then_from flag_from version_rest_from)
+version_from = map_at (λ (named, version). version) (then_at flag_from version_rest_from)

@@ -3,7 +3,6 @@ ghost use Rattle.std.specs.List.{flat_map};
 ghost use Rattle.std.specs.Int.{w16, w32};
 ghost use Rattle.dl_fields.specs.Readers.{Gives, Reads};
 ghost use Rattle.dl_fields.specs.Fields.{counted, IsCounted};
-ghost use Rattle.dl_fields.specs.Lists.{items_from};
 ghost use Rattle.dl_fields.specs.Outputs.{Puts};
 ghost use Rattle.dl_fields.specs.Paths.{IsPart, name_from};
 ghost use Rattle.dl_tree_msg.specs.Answers.{why_rest, why_bytes, IsWhy, answer_rest, answer_bytes, IsAnswer, outcome_rest, outcome_bytes, IsOutcome};
@@ -14,6 +13,7 @@ use crate::answer_kind::{AnswerKind, OutcomeKind, WhyKind};
 use dl_codec::write::{put_u8, put_u16, put_u32, put_u64};
 use dl_fields::code::{Code, read_code};
 use dl_fields::fault::Fault;
+use dl_fields::items::{ItemReader, read_items};
 use dl_fields::number::{read_u16, read_u32, read_u64};
 use dl_fields::path::{read_name, read_path};
 use dl_fields::run::read_run_u32;
@@ -58,19 +58,20 @@ fn read_why(bytes: &[u8]) -> Result<(Why, &[u8]), Fault>
     read_why_rest(kind, rest)
 }
 
-/// So many names.
-fn read_name_items(alloc: Global, count: u32, bytes: &[u8]) -> Result<(Vec<Path>, &[u8]), Stop>
-    ensures { Gives (λ x. (x.0.items, x.1.now)) result (items_from name_from count bytes.now) }
-{
-    let mut items = Vec::new(alloc);
-    let mut rest = bytes;
-    for _ in 0..count {
-        let (name, more) = read_name(rest)?;
-        let item = Path::new(alloc, name)?;
-        items.push(item)?;
-        rest = more;
+/// Names of a listing.
+#[derive(Drop)]
+struct NameReader;
+
+impl ItemReader for NameReader {
+    type Item = Path;
+
+    ghost from = { λ _. name_from };
+
+    fn read_item<'a>(&self, alloc: Global, bytes: &'a [u8]) -> Result<(Path, &'a [u8]), Stop> {
+        let (name, rest) = read_name(bytes)?;
+        let name = Path::new(alloc, name)?;
+        Ok((name, rest))
     }
-    Ok((items, rest))
 }
 
 /// Names behind their count.
@@ -78,7 +79,7 @@ fn read_names(alloc: Global, bytes: &[u8]) -> Result<(Vec<Path>, &[u8]), Stop>
     ensures { Gives (λ x. (x.0.items, x.1.now)) result (names_from bytes.now) }
 {
     let (count, rest) = read_u32(bytes)?;
-    read_name_items(alloc, count, rest)
+    read_items(alloc, &NameReader, count, rest)
 }
 
 /// An answer to one operation behind its kind.
@@ -114,30 +115,19 @@ fn read_answer_rest(
     }
 }
 
-/// An answer to one operation.
-fn read_one_answer(alloc: Global, bytes: &[u8]) -> Result<(OneAnswer, &[u8]), Stop>
-    ensures { Gives (λ x. (x.0, x.1.now)) result (answer_from bytes.now) }
-{
-    let (kind, rest) = read_code(&AnswerKind::ALL, bytes)?;
-    read_answer_rest(alloc, kind, rest)
-}
+/// Answers to operations.
+#[derive(Drop)]
+struct AnswerReader;
 
-/// So many answers.
-fn read_answer_items(
-    alloc: Global,
-    count: u16,
-    bytes: &[u8],
-) -> Result<(Vec<OneAnswer>, &[u8]), Stop>
-    ensures { Gives (λ x. (x.0.items, x.1.now)) result (items_from answer_from count bytes.now) }
-{
-    let mut items = Vec::new(alloc);
-    let mut rest = bytes;
-    for _ in 0..count {
-        let (item, more) = read_one_answer(alloc, rest)?;
-        items.push(item)?;
-        rest = more;
+impl ItemReader for AnswerReader {
+    type Item = OneAnswer;
+
+    ghost from = { λ _. answer_from };
+
+    fn read_item<'a>(&self, alloc: Global, bytes: &'a [u8]) -> Result<(OneAnswer, &'a [u8]), Stop> {
+        let (kind, rest) = read_code(&AnswerKind::ALL, bytes)?;
+        read_answer_rest(alloc, kind, rest)
     }
-    Ok((items, rest))
 }
 
 /// Answers behind their count.
@@ -145,7 +135,7 @@ fn read_answers(alloc: Global, bytes: &[u8]) -> Result<(Vec<OneAnswer>, &[u8]), 
     ensures { Gives (λ x. (x.0.items, x.1.now)) result (answers_from bytes.now) }
 {
     let (count, rest) = read_u16(bytes)?;
-    read_answer_items(alloc, count, rest)
+    read_items(alloc, &AnswerReader, u32::from(count), rest)
 }
 
 /// An answer to a request behind its kind.

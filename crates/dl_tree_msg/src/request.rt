@@ -4,7 +4,6 @@ ghost use Rattle.std.specs.Int.{w16, w32};
 ghost use Rattle.dl_fields.specs.Readers.{Gives, Reads};
 ghost use Rattle.dl_fields.specs.Fields.{counted, IsCounted};
 ghost use Rattle.dl_fields.specs.Codes.{code_byte};
-ghost use Rattle.dl_fields.specs.Lists.{items_from};
 ghost use Rattle.dl_fields.specs.Outputs.{Puts};
 ghost use Rattle.dl_tree_msg.specs.Kinds.{mode_field_code, mode_field};
 ghost use Rattle.dl_tree_msg.specs.Rules.{allows};
@@ -18,6 +17,7 @@ use crate::version::{put_version, read_version, size_of_version};
 use dl_codec::write::{put_u8, put_u16};
 use dl_fields::code::{Code, read_code};
 use dl_fields::fault::Fault;
+use dl_fields::items::{ItemReader, read_items};
 use dl_fields::number::read_u16;
 use dl_fields::path::{read_path, read_stem};
 use dl_fields::run::read_run_u32;
@@ -154,12 +154,21 @@ fn read_op_rest(
     }
 }
 
-/// An operation.
-fn read_op(alloc: Global, rule: PathRule, bytes: &[u8]) -> Result<(OneOp, &[u8]), Stop>
-    ensures { Gives (λ x. (x.0, x.1.now)) result (op_from (allows rule) bytes.now) }
-{
-    let (kind, rest) = read_code(&OpKind::ALL, bytes)?;
-    read_op_rest(alloc, rule, kind, rest)
+/// Operations under a rule of which nodes they may delete and set.
+#[derive(Drop)]
+struct OpReader {
+    rule: PathRule,
+}
+
+impl ItemReader for OpReader {
+    type Item = OneOp;
+
+    ghost from = { λ reader. op_from (allows reader.rule) };
+
+    fn read_item<'a>(&self, alloc: Global, bytes: &'a [u8]) -> Result<(OneOp, &'a [u8]), Stop> {
+        let (kind, rest) = read_code(&OpKind::ALL, bytes)?;
+        read_op_rest(alloc, self.rule, kind, rest)
+    }
 }
 
 /// How many operations follow: at least one.
@@ -174,32 +183,12 @@ fn read_op_count(bytes: &[u8]) -> Result<(u16, &[u8]), Fault>
     }
 }
 
-/// So many operations.
-fn read_op_items(
-    alloc: Global,
-    rule: PathRule,
-    count: u16,
-    bytes: &[u8],
-) -> Result<(Vec<OneOp>, &[u8]), Stop>
-    ensures { Gives (λ x. (x.0.items, x.1.now)) result (items_from (op_from
-        (allows rule)) count bytes.now) }
-{
-    let mut items = Vec::new(alloc);
-    let mut rest = bytes;
-    for _ in 0..count {
-        let (item, more) = read_op(alloc, rule, rest)?;
-        items.push(item)?;
-        rest = more;
-    }
-    Ok((items, rest))
-}
-
 /// Operations behind their count.
 fn read_ops(alloc: Global, rule: PathRule, bytes: &[u8]) -> Result<(Vec<OneOp>, &[u8]), Stop>
     ensures { Gives (λ x. (x.0.items, x.1.now)) result (ops_from (allows rule) bytes.now) }
 {
     let (count, rest) = read_op_count(bytes)?;
-    read_op_items(alloc, rule, count, rest)
+    read_items(alloc, &OpReader { rule }, u32::from(count), rest)
 }
 
 /// A request behind its kind.
@@ -357,7 +346,8 @@ pub fn put_request(alloc: Global, out: &mut Vec<u8>, op: &MetaOp) -> Result<(), 
 fn size_of_create(path: &Path, bytes: &Body, mode: Mode) -> u64
     requires path { IsNewPath mode path.now }
     requires bytes { IsCounted w32 bytes.now }
-    ensures exact { result ≡ length (code_byte mode_field_code (mode_field mode) ++ (counted w16 path.now
+    ensures exact { result ≡ length (code_byte mode_field_code (mode_field mode)
+        ++ (counted w16 path.now
         ++ counted w32 bytes.now)) }
     ensures bound { result ≤ max_op_rest }
 {

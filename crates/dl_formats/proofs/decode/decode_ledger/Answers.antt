@@ -7,8 +7,10 @@ ledger_with-requires c = read_quorum c.args.bytes.now c.in-Ok.fields (λ i. omeg
 
 pub returns-in-Ok : goal.returns-in-Ok
 returns-in-Ok c = record {
-  found = ledger_found c.args.bytes.now c.in-Ok.fields c.ledger_with.result (λ i. omega (arith, c.type_inv.bytes i)) (sym c.in-Ok.ensures) c.ledger_with.ensures;
-  only = λ x valid spelt. ap (λ m. Ok m) (ledger_only c.args.bytes.now c.in-Ok.fields c.ledger_with.result x (sym c.in-Ok.ensures) c.ledger_with.ensures valid spelt);
+  found = ledger_found c.args.bytes.now c.in-Ok.fields c.ledger_with.result (λ i. omega (arith, c.type_inv.bytes i))
+      (sym c.in-Ok.ensures) c.ledger_with.ensures;
+  only = λ x valid spelt. ap (λ m. Ok m)
+      (ledger_only c.args.bytes.now c.in-Ok.fields c.ledger_with.result x (sym c.in-Ok.ensures) c.ledger_with.ensures valid spelt);
   refused = tt;
 }
 

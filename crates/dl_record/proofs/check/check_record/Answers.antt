@@ -11,9 +11,11 @@ returns-in_err-head-clause-exact c =
 pub returns-in_err-rows-clause-exact : goal.returns-in_err-rows-clause-exact
 returns-in_err-rows-clause-exact c =
     let p = err_from_is_err_and c.from_residual-in_err-rows.result c.from_residual-in_err-rows.ensures.1 in
-    rw (p.1, p.2) (record_stops c.args.alone c.args.before c.args.bytes.now c.args.at c.in_ok-head.head c.in_err-rows.field-0.0 c.in_ok-head.ensures.exact c.in_err-rows.ensures)
+    rw (p.1, p.2) (record_stops c.args.alone c.args.before c.args.bytes.now c.args.at c.in_ok-head.head c.in_err-rows.field-0.0
+    c.in_ok-head.ensures.exact c.in_err-rows.ensures)
 
 pub returns-clause-exact : goal.returns-clause-exact
 returns-clause-exact c =
-    record_checked c.args.alone c.args.before c.args.bytes.now c.args.at c.in_ok-rows.rows _ c.number-txid.result c.in_ok-head.head c.in_ok-head.ensures.exact c.in_ok-rows.ensures
+    record_checked c.args.alone c.args.before c.args.bytes.now c.args.at c.in_ok-rows.rows _ c.number-txid.result c.in_ok-head.head
+    c.in_ok-head.ensures.exact c.in_ok-rows.ensures
     (omega arith) c.number-txid.ensures.value

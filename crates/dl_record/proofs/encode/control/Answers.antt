@@ -13,4 +13,10 @@ returns-clause-entry c = control_entry c.args.position c.args.txid (omega arith)
 
 pub close_entry-requires-clause-size : goal.close_entry-requires-clause-size
 close_entry-requires-clause-size c =
-    omega (arith, c.in_ok-out.ensures.len, simp length-append at (ap length c.in_ok-put_payload.ensures.ok), length-fields_and_payload c.args.position 1 c.args.txid [])
+    omega (
+      arith,
+      c.in_ok-out.ensures.len,
+      simp length-append at
+          (ap length c.in_ok-put_payload.ensures.ok),
+      length-fields_and_payload c.args.position 1 c.args.txid [],
+    )

@@ -5,7 +5,8 @@ use Rattle.dl_record.proofs.BuildingLaws.{finished}
 use Rattle.dl_record.proofs.builder.EntryBuilder.entry.Goals as goal
 
 pub returns-in_err-entry-clause-entry : goal.returns-in_err-entry-clause-entry
-returns-in_err-entry-clause-entry c = (finished _ c.self.inside.rows _ _ (subst IsBytes c.deref.ensures.value c.copy_entry.ensures.bytes) c.self.invariant c.self.view_is c.requires).is
+returns-in_err-entry-clause-entry c =
+    (finished _ c.self.inside.rows _ _ (subst IsBytes c.deref.ensures.value c.copy_entry.ensures.bytes) c.self.invariant c.self.view_is c.requires).is
 
 pub returns-clause-bytes : goal.returns-clause-bytes
 returns-clause-bytes c =
@@ -14,4 +15,5 @@ returns-clause-bytes c =
     ∙ (finished _ c.self.inside.rows _ _ (subst IsBytes c.deref.ensures.value c.copy_entry.ensures.bytes) c.self.invariant c.self.view_is c.requires).spelt
 
 pub returns-clause-entry : goal.returns-clause-entry
-returns-clause-entry c = (finished _ c.self.inside.rows _ _ (subst IsBytes c.deref.ensures.value c.copy_entry.ensures.bytes) c.self.invariant c.self.view_is c.requires).is
+returns-clause-entry c =
+    (finished _ c.self.inside.rows _ _ (subst IsBytes c.deref.ensures.value c.copy_entry.ensures.bytes) c.self.invariant c.self.view_is c.requires).is

@@ -19,11 +19,13 @@ pub invariant_of-self-2 : goal.invariant_of-self-2
 invariant_of-self-2 c =
     let r = Set c.args.position c.args.txid c.args.payloads.now in
     let may = subst (λ (parts : List Stored). MayFollow parts r) (sym c.self.view_is) c.requires in
-    (building_push c.self.inside.count c.self.inside.rows c.self.inside.bytes.items c.add_set.new.out.items r c.add_set.ensures.bytes c.self.invariant tt may c.in_ok-add_set.ensures.ok).building
+    (building_push c.self.inside.count c.self.inside.rows c.self.inside.bytes.items c.add_set.new.out.items r c.add_set.ensures.bytes
+    c.self.invariant tt may c.in_ok-add_set.ensures.ok).building
 
 pub returns-clause-ok : goal.returns-clause-ok
 returns-clause-ok c =
     let r = Set c.args.position c.args.txid c.args.payloads.now in
     let may = subst (λ (parts : List Stored). MayFollow parts r) (sym c.self.view_is) c.requires in
-    (building_push c.self.inside.count c.self.inside.rows c.self.inside.bytes.items c.add_set.new.out.items r c.add_set.ensures.bytes c.self.invariant tt may c.in_ok-add_set.ensures.ok).same
+    (building_push c.self.inside.count c.self.inside.rows c.self.inside.bytes.items c.add_set.new.out.items r c.add_set.ensures.bytes
+    c.self.invariant tt may c.in_ok-add_set.ensures.ok).same
     ∙ ap (λ (parts : List Stored). parts ++ r ∷ []) c.self.view_is

@@ -1,5 +1,7 @@
+//! What holds of fields, for all bytes: a law on their definitions, with no code.
+
 ghost use Rattle.std.specs.Int.{w8, w16, w32, w64};
-ghost use Rattle.dl_codec.specs.Fields.{HasOneSpelling};
+ghost use Rattle.dl_codec.specs.Laws.{HasOneSpelling};
 
 /// A number has one spelling at each width: what was written is read again, and what is read was written so. It rests
 /// on the law of `from_be_bytes`.

@@ -1,8 +1,8 @@
 use Rattle.std.proofs.Common.{sym, ap, ◌∙◌}
 use Rattle.dl_record.specs.Reading.{entry_at}
-use Rattle.dl_record.proofs.Steps.{ok_is}
+use Rattle.dl_reading.proofs.ReadingLemmas.{ok_is}
 use Rattle.dl_record.proofs.Entries.{entry_again}
-use Rattle.dl_record.proofs.law.entries_have_one_spelling.Goals as goal
+use Rattle.dl_record.proofs.laws.entries_have_one_spelling.Goals as goal
 
 pub returns : goal.returns
 returns c = record {
