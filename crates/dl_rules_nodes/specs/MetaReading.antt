@@ -2,7 +2,7 @@
 use Rattle.std.specs.Prelude.{ℕ, ◌+◌, ◌==◌, Bool, true, false, nat_lt, List, [], ◌∷◌, Option, Some, None, Result}
 use Rattle.std.specs.Int.{w32, w64}
 use Rattle.dl_fields.specs.declared.fault.Fault.{Fault}
-use Rattle.dl_fields.specs.Readers.{then_from, map_from, passing, whole_from}
+use Rattle.dl_fields.specs.Readers.{then_at, map_at, passing, whole_from}
 use Rattle.dl_fields.specs.Fields.{number_from}
 use Rattle.dl_fields.specs.Codes.{code_from}
 use Rattle.dl_tree_msg.specs.declared.rule.PathRule.TheVariants.{AllButConf}
@@ -38,15 +38,16 @@ new_number_from known session = passing (is_above (number_in known.live session)
 
 -- an item behind its kind
 abbrev pub meta_rest_from : Known → MetaKind → List ℕ → Result (MetaItem × List ℕ) Fault
-meta_rest_from known AConf = map_from Setup conf_from
-meta_rest_from known AConnect = map_from Connect (new_session_from known)
-meta_rest_from known AnExpire = map_from Expire (live_session_from known)
-meta_rest_from known AnAsk = map_from (λ x. Ask x.0 x.1.0 x.1.1)
-    (then_from (live_session_from known) (λ session. then_from (new_number_from known session) (λ number. request_from (allows AllButConf))))
+meta_rest_from known AConf = map_at Setup conf_from
+meta_rest_from known AConnect = map_at Connect (new_session_from known)
+meta_rest_from known AnExpire = map_at Expire (live_session_from known)
+meta_rest_from known AnAsk = map_at (λ (session, (number, request)). Ask session number request)
+    (then_at (live_session_from known) (λ session. then_at (new_number_from known session) (λ number. request_from (allows AllButConf))))
 
 -- an item, the first one or a later one, after those that leave these sessions
 abbrev pub meta_item_from : Bool → Known → List ℕ → Result (MetaItem × List ℕ) Fault
-meta_item_from first known = map_from (λ x. x.1) (then_from (code_from meta_code (kinds_due first)) (meta_rest_from known))
+meta_item_from first known =
+    map_at (λ (kind, item). item) (then_at (code_from meta_code (kinds_due first)) (meta_rest_from known))
 
 -- the item that is all of a body
 abbrev pub meta_item_in : Bool → Known → List ℕ → Result MetaItem Fault

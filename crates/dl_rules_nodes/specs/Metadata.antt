@@ -12,10 +12,10 @@ use Rattle.dl_tree_msg.specs.declared.rule.PathRule.TheVariants.{AllButConf}
 use Rattle.dl_tree_msg.specs.Rules.{allows}
 use Rattle.dl_msg.specs.declared.meta_reply.MetaReply.{MetaReply}
 use Rattle.dl_msg.specs.declared.meta_reply.MetaReply.TheVariants as reply
-use Rattle.dl_tree.specs.Trees.{Nodes, root_alone, new_node, applied, without_session}
+use Rattle.dl_tree.specs.Trees.{Nodes, root_alone, new_node, after_request, without_session}
 use Rattle.dl_session.specs.declared.admit.Admit.{Admit}
 use Rattle.dl_session.specs.declared.admit.Admit.TheVariants as admit
-use Rattle.dl_session.specs.Sessions.{Known, none_known, connected, expired, ran, number_in, admits}
+use Rattle.dl_session.specs.Sessions.{Known, none_known, after_connect, after_expiry, after_run, number_in, admission}
 use Rattle.dl_formats.specs.declared.conf.Conf as conf
 use Rattle.dl_formats.specs.Keys.{Key, Conf, Streams, Ledgers, path_of}
 use Rattle.dl_formats.specs.NodeBytes.{conf_bytes}
@@ -42,9 +42,9 @@ first_tree c = with_node (with_node (with_node root_alone Conf (conf_bytes c)) S
 -- what an item does
 unfoldable pub does : Meta → MetaItem → Meta
 does m (Setup c) = record m { tree = first_tree c }
-does m (Connect session) = record m { sessions = connected m.sessions }
-does m (Expire session) = record m { tree = without_session m.tree session; sessions = expired m.sessions session }
-does m (Ask session number op) = record m { tree = (applied m.tree session op).1; sessions = ran m.sessions session number }
+does m (Connect session) = record m { sessions = after_connect m.sessions }
+does m (Expire session) = record m { tree = without_session m.tree session; sessions = after_expiry m.sessions session }
+does m (Ask session number op) = record m { tree = (after_request m.tree session op).1; sessions = after_run m.sessions session number }
 
 -- the fold of items from a base on, the newest item first
 unfoldable pub meta_from : Meta → List MetaItem → Meta
@@ -59,11 +59,11 @@ meta_of items = meta_from nothing items
 
 -- what becomes of a request of a session
 abbrev pub admit_of : Meta → (session number : ℕ) → Admit
-admit_of m session number = admits (number_in m.sessions.live session) number
+admit_of m session number = admission (number_in m.sessions.live session) number
 
 -- the answer to a request that runs
 abbrev pub answer_of : Meta → ℕ → MetaOp → MetaAnswer
-answer_of m session op = (applied m.tree session op).0
+answer_of m session op = (after_request m.tree session op).0
 
 -- what is replied to a request; an old one has no reply
 abbrev pub reply_by : Meta → (session number : ℕ) → MetaOp → Admit → Option MetaReply

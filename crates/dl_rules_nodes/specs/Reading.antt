@@ -3,7 +3,7 @@ use Rattle.std.specs.Prelude.{ℕ, zero, suc, ◌+◌, ◌-◌, ◌==◌, ◌||�
 use Rattle.std.specs.Int.{w32, w64}
 use Rattle.dl_fields.specs.declared.fault.Fault.{Fault}
 use Rattle.dl_fields.specs.declared.fault.Fault.TheVariants.{Short, Bad, Long}
-use Rattle.dl_fields.specs.Readers.{◌>>=◌, then_from, map_from, flawless}
+use Rattle.dl_fields.specs.Readers.{◌>>=◌, then_at, map_at, flawless}
 use Rattle.dl_fields.specs.Fields.{number_from, counted_from}
 use Rattle.dl_fields.specs.Codes.{code_from}
 use Rattle.dl_record.specs.declared.entry_flaw.EntryFlaw.{EntryFlaw}
@@ -42,18 +42,18 @@ entry_from = flawless entry_flaw (counted_from w32)
 
 -- the fields of an item that has an entry: ledger, entry, count and the entry's bytes
 abbrev pub fields_from : (ℕ → ℕ → ℕ → List ℕ → Item) → List ℕ → Result (Item × List ℕ) Fault
-fields_from make = map_from (λ x. make x.0 x.1.0 x.1.1.0 x.1.1.1)
-    (then_from (number_from w64) (λ l. then_from (number_from w64) (λ e. then_from (number_from w64) (λ n. entry_from))))
+fields_from make = map_at (λ (ledger, (entry, (count, bytes))). make ledger entry count bytes)
+    (then_at (number_from w64) (λ l. then_at (number_from w64) (λ e. then_at (number_from w64) (λ n. entry_from))))
 
 -- an item behind its kind
 abbrev pub item_rest_from : ItemKind → List ℕ → Result (Item × List ℕ) Fault
 item_rest_from AnAdd = fields_from AddItem
 item_rest_from ACopy = fields_from CopyItem
-item_rest_from AFence = map_from FenceItem (number_from w64)
+item_rest_from AFence = map_at FenceItem (number_from w64)
 
 -- an item
 abbrev pub item_from : List ℕ → Result (Item × List ℕ) Fault
-item_from = map_from (λ x. x.1) (then_from (code_from item_code item_kinds) item_rest_from)
+item_from = map_at (λ (kind, item). item) (then_at (code_from item_code item_kinds) item_rest_from)
 
 -- ---- a batch
 

@@ -8,7 +8,7 @@ use Rattle.std.proofs.lemmas.List.Sorted.{searched}
 use Rattle.std.proofs.lemmas.Grind.{get_or_default_zero}
 use Rattle.std.proofs.lemmas.List.Edits.{length-remove}
 use Rattle.dl_session.specs.declared.admit.Admit.TheVariants.{Run}
-use Rattle.dl_session.specs.Sessions.{Known, Live, ids, number_in, with_number, connected, expired, ran, admits}
+use Rattle.dl_session.specs.Sessions.{Known, Live, ids, number_in, with_number, after_connect, after_expiry, after_run, admission}
 use Rattle.dl_session.specs.Rises.{Rises, beside}
 
 -- each is above the low bound
@@ -62,7 +62,8 @@ ids-beside [] ns h = refl
 ids-beside (x ∷ xs) [] h = absurd (omega arith)
 ids-beside (x ∷ xs) (n ∷ ns) h = ap (λ (t : List ℕ). x ∷ t) (ids-beside xs ns (omega arith))
 
-pub beside-more : (xs ns : List ℕ) (x n : ℕ) → length ns ≡ length xs → beside (xs ++ x ∷ []) (ns ++ n ∷ []) ≡ beside xs ns ++ (record { session = x; number = n }) ∷ []
+pub beside-more : (xs ns : List ℕ) (x n : ℕ) → length ns ≡ length xs
+    → beside (xs ++ x ∷ []) (ns ++ n ∷ []) ≡ beside xs ns ++ (record { session = x; number = n }) ∷ []
 beside-more [] [] x n h = refl
 beside-more [] (m ∷ ns) x n h = absurd (omega arith)
 beside-more (y ∷ xs) [] x n h = absurd (omega arith)
@@ -86,12 +87,14 @@ number_none [] ns k none = refl
 number_none (x ∷ xs) [] k none = refl
 number_none (x ∷ xs) (n ∷ ns) k none = cond-false _ _ _ (none_here x xs k none) ∙ number_none xs ns k (none_later x xs k none)
 
-pub number_at : (low high : ℕ) (xs ns : List ℕ) (i k : ℕ) → Rises low high xs → length ns ≡ length xs → i < length xs → get_or xs i 0 ≡ k → number_in (beside xs ns) k ≡ Some (get_or ns i 0)
+pub number_at : (low high : ℕ) (xs ns : List ℕ) (i k : ℕ) → Rises low high xs → length ns ≡ length xs → i < length xs → get_or xs i 0 ≡ k
+    → number_in (beside xs ns) k ≡ Some (get_or ns i 0)
 number_at low high [] ns i k r same h e = absurd (omega arith)
 number_at low high (x ∷ xs) [] i k r same h e = absurd (omega arith)
 number_at low high (x ∷ xs) (n ∷ ns) zero k r same h e = cond-true _ _ _ (eq-eqb x k e)
 number_at low high (x ∷ xs) (n ∷ ns) (suc i) k r same h e =
-    cond-false _ _ _ (ne_eqb x k (λ w. absurd (omega (arith, w, e, rises_above x high xs i 0 r.1 (omega arith))))) ∙ number_at x high xs ns i k r.1 (omega arith) (omega arith) e
+    cond-false _ _ _ (ne_eqb x k (λ w. absurd (omega (arith, w, e, rises_above x high xs i 0 r.1 (omega arith)))))
+    ∙ number_at x high xs ns i k r.1 (omega arith) (omega arith) e
 
 -- the live sessions but one
 abbrev pub others : ℕ → List Live → List Live
@@ -111,7 +114,8 @@ others_none (x ∷ xs) [] k none = refl
 others_none (x ∷ xs) (n ∷ ns) k none =
     not_same _ _ _ (none_here x xs k none) ∙ ap (λ (t : List Live). (record { session = x; number = n }) ∷ t) (others_none xs ns k (none_later x xs k none))
 
-pub others_at : (low high : ℕ) (xs ns : List ℕ) (i k : ℕ) → Rises low high xs → length ns ≡ length xs → i < length xs → get_or xs i 0 ≡ k → others k (beside xs ns) ≡ beside (remove xs i) (remove ns i)
+pub others_at : (low high : ℕ) (xs ns : List ℕ) (i k : ℕ) → Rises low high xs → length ns ≡ length xs → i < length xs → get_or xs i 0 ≡ k
+    → others k (beside xs ns) ≡ beside (remove xs i) (remove ns i)
 others_at low high [] ns i k r same h e = absurd (omega arith)
 others_at low high (x ∷ xs) [] i k r same h e = absurd (omega arith)
 others_at low high (x ∷ xs) (n ∷ ns) zero k r same h e = not_other _ _ _ (eq-eqb x k e) ∙ others_none xs ns k (none_above x high xs k e r.1)
@@ -127,7 +131,8 @@ ran_none (x ∷ xs) (n ∷ ns) k m none =
     let later = ran_none xs ns k m (none_later x xs k none) in
     λ i. here i ∷ later i
 
-pub ran_at : (low high : ℕ) (xs ns : List ℕ) (i k m : ℕ) → Rises low high xs → length ns ≡ length xs → i < length xs → get_or xs i 0 ≡ k → map (with_number k m) (beside xs ns) ≡ beside xs (set ns i m)
+pub ran_at : (low high : ℕ) (xs ns : List ℕ) (i k m : ℕ) → Rises low high xs → length ns ≡ length xs → i < length xs → get_or xs i 0 ≡ k
+    → map (with_number k m) (beside xs ns) ≡ beside xs (set ns i m)
 ran_at low high [] ns i k m r same h e = absurd (omega arith)
 ran_at low high (x ∷ xs) [] i k m r same h e = absurd (omega arith)
 ran_at low high (x ∷ xs) (n ∷ ns) zero k m r same h e =
@@ -135,7 +140,8 @@ ran_at low high (x ∷ xs) (n ∷ ns) zero k m r same h e =
     let later = ran_none xs ns k m (none_above x high xs k e r.1) in
     λ i. here i ∷ later i
 ran_at low high (x ∷ xs) (n ∷ ns) (suc i) k m r same h e =
-    let here : with_number k m (record { session = x; number = n }) ≡ (record { session = x; number = n }) = cond-false _ _ _ (ne_eqb x k (λ w. absurd (omega (arith, w, e, rises_above x high xs i 0 r.1 (omega arith))))) in
+    let here : with_number k m (record { session = x; number = n }) ≡ (record { session = x; number = n }) =
+    cond-false _ _ _ (ne_eqb x k (λ w. absurd (omega (arith, w, e, rises_above x high xs i 0 r.1 (omega arith))))) in
     let later = ran_at x high xs ns i k m r.1 (omega arith) (omega arith) e in
     λ i. here i ∷ later i
 
@@ -156,40 +162,52 @@ pub record IsKept (last : ℕ) (xs ns : List ℕ) : Type 0 where
 abbrev pub known : ℕ → List ℕ → List ℕ → Known
 known last xs ns = record { last = last; live = beside xs ns }
 
-pub keeps_more : (last : ℕ) (xs ns ys ms : List ℕ) (n : ℕ) → IsKept last xs ns → ys ≡ xs ++ (last + 1) ∷ [] → ms ≡ ns ++ n ∷ [] → Rises 0 (last + 1) ys × (length ms ≡ length ys)
-keeps_more last xs ns ys ms n k e f =
-    (subst (λ (t : List ℕ). Rises 0 (last + 1) t) (sym e) (rises_more 0 last xs k.rises), rw (e, f) (omega (arith, k.same, length-append xs ((last + 1) ∷ []), length-append ns (n ∷ []))))
-
-pub known-connected : (last : ℕ) (xs ns ys ms : List ℕ) (s : Known) → IsKept last xs ns → known last xs ns ≡ s → ys ≡ xs ++ (last + 1) ∷ [] → ms ≡ ns ++ 0 ∷ [] → (last + 1 ≡ s.last + 1) × (known (last + 1) ys ms ≡ connected s)
-unfolding connected
-known-connected last xs ns ys ms s k is e f = (
-  ap (λ (t : Known). t.last + 1) is,
-  ap₂ (λ (a b : List ℕ). known (last + 1) a b) e f ∙ ap (λ (t : List Live). record { last = last + 1; live = t }) (beside-more xs ns (last + 1) 0 k.same) ∙ ap connected is,
+pub keeps_more : (last : ℕ) (xs ns ys ms : List ℕ) (n : ℕ) → IsKept last xs ns → ys ≡ xs ++ (last + 1) ∷ [] → ms ≡ ns ++ n ∷ []
+    → Rises 0 (last + 1) ys × (length ms ≡ length ys)
+keeps_more last xs ns ys ms n k e f = (
+  subst (λ (t : List ℕ). Rises 0 (last + 1) t) (sym e) (rises_more 0 last xs k.rises),
+  rw (e, f) (omega (arith, k.same, length-append xs ((last + 1) ∷ []), length-append ns (n ∷ []))),
 )
 
-pub keeps_fewer : (last : ℕ) (xs ns ys ms : List ℕ) (i : ℕ) → IsKept last xs ns → i < length xs → ys ≡ remove xs i → ms ≡ remove ns i → Rises 0 last ys × (length ms ≡ length ys)
+pub known-connected : (last : ℕ) (xs ns ys ms : List ℕ) (s : Known) → IsKept last xs ns → known last xs ns ≡ s → ys ≡ xs ++ (last + 1) ∷ [] → ms ≡ ns ++ 0 ∷ []
+    → (last + 1 ≡ s.last + 1) × (known (last + 1) ys ms ≡ after_connect s)
+unfolding after_connect
+known-connected last xs ns ys ms s k is e f = (
+  ap (λ (t : Known). t.last + 1) is,
+  ap₂ (λ (a b : List ℕ). known (last + 1) a b) e f ∙ ap (λ (t : List Live). record { last = last + 1; live = t }) (beside-more xs ns (last + 1) 0 k.same)
+      ∙ ap after_connect is,
+)
+
+pub keeps_fewer : (last : ℕ) (xs ns ys ms : List ℕ) (i : ℕ) → IsKept last xs ns → i < length xs → ys ≡ remove xs i → ms ≡ remove ns i
+    → Rises 0 last ys × (length ms ≡ length ys)
 keeps_fewer last xs ns ys ms i k h e f = (
   subst (λ (t : List ℕ). Rises 0 last t) (sym e) (rises_less 0 last xs i k.rises h),
   rw (e, f) (omega (arith, k.same, length-remove xs i h, length-remove ns i (omega (arith, h, k.same)))),
 )
 
-pub known-expired : (last : ℕ) (xs ns ys ms : List ℕ) (i session : ℕ) (s : Known) → IsKept last xs ns → known last xs ns ≡ s → i < length xs → get_or xs i 0 ≡ session → ys ≡ remove xs i → ms ≡ remove ns i → known last ys ms ≡ expired s session
-unfolding expired
+pub known-expired : (last : ℕ) (xs ns ys ms : List ℕ) (i session : ℕ) (s : Known) → IsKept last xs ns → known last xs ns ≡ s → i < length xs
+    → get_or xs i 0 ≡ session → ys ≡ remove xs i → ms ≡ remove ns i → known last ys ms ≡ after_expiry s session
+unfolding after_expiry
 known-expired last xs ns ys ms i session s k is h at e f =
-    ap₂ (λ (a b : List ℕ). known last a b) e f ∙ ap (λ (t : List Live). record { last = last; live = t }) (sym (others_at 0 last xs ns i session k.rises k.same h at)) ∙ ap (λ (t : Known). expired t session) is
+    ap₂ (λ (a b : List ℕ). known last a b) e f
+    ∙ ap (λ (t : List Live). record { last = last; live = t }) (sym (others_at 0 last xs ns i session k.rises k.same h at))
+    ∙ ap (λ (t : Known). after_expiry t session) is
 
-pub known-expired_none : (last : ℕ) (xs ns : List ℕ) (session : ℕ) (s : Known) → known last xs ns ≡ s → IsNone xs session → s ≡ expired s session
-unfolding expired
+pub known-expired_none : (last : ℕ) (xs ns : List ℕ) (session : ℕ) (s : Known) → known last xs ns ≡ s → IsNone xs session → s ≡ after_expiry s session
+unfolding after_expiry
 known-expired_none last xs ns session s is none =
-    sym is ∙ ap (λ (t : List Live). record { last = last; live = t }) (sym (others_none xs ns session none)) ∙ ap (λ (t : Known). expired t session) is
+    sym is ∙ ap (λ (t : List Live). record { last = last; live = t }) (sym (others_none xs ns session none)) ∙ ap (λ (t : Known). after_expiry t session) is
 
-pub known-ran : (last : ℕ) (xs ns : List ℕ) (i session number : ℕ) (s : Known) → IsKept last xs ns → known last xs ns ≡ s → i < length xs → get_or xs i 0 ≡ session → known last xs (set ns i number) ≡ ran s session number
-unfolding ran
+pub known-ran : (last : ℕ) (xs ns : List ℕ) (i session number : ℕ) (s : Known) → IsKept last xs ns → known last xs ns ≡ s → i < length xs
+    → get_or xs i 0 ≡ session → known last xs (set ns i number) ≡ after_run s session number
+unfolding after_run
 known-ran last xs ns i session number s k is h at =
-    ap (λ (t : List Live). record { last = last; live = t }) (sym (ran_at 0 last xs ns i session number k.rises k.same h at)) ∙ ap (λ (t : Known). ran t session number) is
+    ap (λ (t : List Live). record { last = last; live = t }) (sym (ran_at 0 last xs ns i session number k.rises k.same h at))
+    ∙ ap (λ (t : Known). after_run t session number) is
 
 -- what a look finds
-pub known-number : (last : ℕ) (xs ns : List ℕ) (i session : ℕ) (s : Known) → IsKept last xs ns → known last xs ns ≡ s → i < length xs → get_or xs i 0 ≡ session → number_in s.live session ≡ Some (get_or ns i 0)
+pub known-number : (last : ℕ) (xs ns : List ℕ) (i session : ℕ) (s : Known) → IsKept last xs ns → known last xs ns ≡ s → i < length xs → get_or xs i 0 ≡ session
+    → number_in s.live session ≡ Some (get_or ns i 0)
 known-number last xs ns i session s k is h at = ap (λ (t : Known). number_in t.live session) (sym is) ∙ number_at 0 last xs ns i session k.rises k.same h at
 
 pub known-none : (last : ℕ) (xs ns : List ℕ) (session : ℕ) (s : Known) → known last xs ns ≡ s → IsNone xs session → number_in s.live session ≡ None
@@ -219,11 +237,12 @@ pub all_given : (last : ℕ) (xs : List ℕ) → Rises 0 last xs → All (λ x. 
 all_given last xs r k d h = rises_below 0 last xs k d r h
 
 -- a request that runs has a live session
-pub runs_live : (o : Option ℕ) (n : ℕ) → o ≡ None → admits o n ≡ Run → ⊥
+pub runs_live : (o : Option ℕ) (n : ℕ) → o ≡ None → admission o n ≡ Run → ⊥
 runs_live None n e run = cc
 runs_live (Some m) n e run = absurd (cc)
 
 -- what a look reads at the place that was found
-pub number_read : (last : ℕ) (xs ns : List ℕ) (i session n : ℕ) (s : Known) → IsKept last xs ns → known last xs ns ≡ s → IsAt xs i session → n ≡ get_or ns i n → Some n ≡ number_in s.live session
+pub number_read : (last : ℕ) (xs ns : List ℕ) (i session n : ℕ) (s : Known) → IsKept last xs ns → known last xs ns ≡ s → IsAt xs i session → n ≡ get_or ns i n
+    → Some n ≡ number_in s.live session
 number_read last xs ns i session n s k is at read =
     ap Some (read ∙ get_or_default_zero ns i n (omega (arith, at.within, k.same))) ∙ sym (known-number last xs ns i session s k is at.within at.is)

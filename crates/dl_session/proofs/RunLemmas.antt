@@ -2,8 +2,8 @@
 use Rattle.std.proofs.Common.{◌≡◌, ℕ, ◌+◌, ◌<◌, ◌≤◌, Bool, true, false, cond, not, ◌==◌, nat_lt, List, [], ◌∷◌, ◌++◌, map, filter, Option, None, Some, is_some, IsTrue, refl, sym, ap, ◌∙◌, subst, arith, eqb-true, inl, inr, ◌⊎◌}
 use Rattle.std.proofs.lemmas.Bool.{cases_eq, ne_eqb, cond-true, cond-false, ltb-true}
 use Rattle.dl_session.specs.declared.admit.Admit.TheVariants.{Old, Run}
-use Rattle.dl_session.specs.Sessions.{Known, Live, connected, expired, ran, is_live, number_in, admits, with_number}
-use Rattle.dl_session.specs.Laws.{Change, Connects, Expires, Runs, change, after, AreAdmitted}
+use Rattle.dl_session.specs.Sessions.{Known, Live, after_connect, after_expiry, after_run, is_live, number_in, admission, with_number}
+use Rattle.dl_session.specs.Laws.{Change, Connects, Expires, Runs, after_change, after_changes, AreAdmitted}
 
 -- ---- the last number of one session
 
@@ -26,7 +26,8 @@ number-kept [] k s other = refl
 number-kept (x ∷ xs) k s other = go (number-kept xs k s other) (x.session == s) refl
   where
     go : number_in (filter (λ (x : Live). not (x.session == s)) xs) k ≡ number_in xs k → (b : Bool) → (x.session == s) ≡ b
-        → number_in (cond (not b) (x ∷ filter (λ (x : Live). not (x.session == s)) xs) (filter (λ (x : Live). not (x.session == s)) xs)) k ≡ number_in (x ∷ xs) k
+        → number_in (cond (not b) (x ∷ filter (λ (x : Live). not (x.session == s)) xs) (filter (λ (x : Live). not (x.session == s)) xs)) k
+        ≡ number_in (x ∷ xs) k
     go ih true w = ih ∙ sym (cond-false _ _ _ (ne_eqb x.session k (λ e. other (sym (eqb-true x.session s w) ∙ e))))
     go ih false w = ap (λ (o : Option ℕ). cond (x.session == k) (Some x.number) o) ih
 
@@ -34,7 +35,8 @@ number-other : (live : List Live) (k n j : ℕ) → (j ≡ k → ⊥) → number
 number-other [] k n j other = refl
 number-other (x ∷ xs) k n j other = go (number-other xs k n j other) (x.session == k) refl
   where
-    go : number_in (map (with_number k n) xs) j ≡ number_in xs j → (b : Bool) → (x.session == k) ≡ b → number_in (cond b (record x { number = n }) x ∷ map (with_number k n) xs) j ≡ number_in (x ∷ xs) j
+    go : number_in (map (with_number k n) xs) j ≡ number_in xs j → (b : Bool) → (x.session == k) ≡ b
+        → number_in (cond b (record x { number = n }) x ∷ map (with_number k n) xs) j ≡ number_in (x ∷ xs) j
     go ih true w =
         let no_here : (x.session == j) ≡ false = ne_eqb x.session j (λ e. other (sym e ∙ eqb-true x.session k w)) in
         cond-false _ _ _ no_here ∙ ih ∙ sym (cond-false _ _ _ no_here)
@@ -58,22 +60,24 @@ number-same (x ∷ xs) k n = go (number-same xs k n) (x.session == k) refl
 
 -- a fact on the last number of a session, given or not, that one change keeps
 Keeps : (Option ℕ → Type 0) → ℕ → Known → Change → Type 0
-Keeps P k s x = (k ≤ (change s x).last) × P (number_in (change s x).live k)
+Keeps P k s x = (k ≤ (after_change s x).last) × P (number_in (after_change s x).live k)
 
 keeps_connected : (P : Option ℕ → Type 0) (s : Known) (k : ℕ) → k ≤ s.last → P (number_in s.live k) → Keeps P k s Connects
-unfolding Keeps connected
+unfolding Keeps after_connect
 keeps_connected P s k given now = (omega (arith, given), subst P (sym (number-more s.live k (s.last + 1) (λ e. absurd (omega (arith, e, given))))) now)
 
 keeps_expired : (P : Option ℕ → Type 0) (s : Known) (k session : ℕ) → k ≤ s.last → P None → P (number_in s.live k) → Keeps P k s (Expires session)
-unfolding Keeps expired
+unfolding Keeps after_expiry
 keeps_expired P s k session given none now = (given, go (cases_eq session k))
   where
     go : (session ≡ k) ⊎ (session ≡ k → ⊥) → P (number_in (filter (λ (x : Live). not (x.session == session)) s.live) k)
-    go (inl e) = subst P (sym (ap (λ (j : ℕ). number_in (filter (λ (x : Live). not (x.session == session)) s.live) j) (sym e) ∙ number-gone s.live session)) none
+    go (inl e) =
+        subst P (sym (ap (λ (j : ℕ). number_in (filter (λ (x : Live). not (x.session == session)) s.live) j) (sym e) ∙ number-gone s.live session)) none
     go (inr other) = subst P (sym (number-kept s.live k session other)) now
 
-keeps_ran : (P : Option ℕ → Type 0) (s : Known) (k session n : ℕ) → k ≤ s.last → (session ≡ k → P (replaced (number_in s.live k) n)) → P (number_in s.live k) → Keeps P k s (Runs session n)
-unfolding Keeps ran
+keeps_ran : (P : Option ℕ → Type 0) (s : Known) (k session n : ℕ) → k ≤ s.last → (session ≡ k → P (replaced (number_in s.live k) n)) → P (number_in s.live k)
+    → Keeps P k s (Runs session n)
+unfolding Keeps after_run
 keeps_ran P s k session n given here now = (given, go (cases_eq session k))
   where
     go : (session ≡ k) ⊎ (session ≡ k → ⊥) → P (number_in (map (with_number session n) s.live) k)
@@ -89,15 +93,15 @@ gone_replaced : (o : Option ℕ) (n : ℕ) → is_some o ≡ false → is_some (
 gone_replaced None n gone = refl
 gone_replaced (Some m) n gone = gone
 
-gone-change : (s : Known) (k : ℕ) (x : Change) → k ≤ s.last → is_live s k ≡ false → (k ≤ (change s x).last) × (is_live (change s x) k ≡ false)
+gone-change : (s : Known) (k : ℕ) (x : Change) → k ≤ s.last → is_live s k ≡ false → (k ≤ (after_change s x).last) × (is_live (after_change s x) k ≡ false)
 unfolding Keeps IsGone
 gone-change s k Connects given gone = keeps_connected IsGone s k given gone
 gone-change s k (Expires session) given gone = keeps_expired IsGone s k session given refl gone
 gone-change s k (Runs session number) given gone = keeps_ran IsGone s k session number given (λ e. gone_replaced (number_in s.live k) number gone) gone
 
-pub gone-after : (s : Known) (k : ℕ) (xs : List Change) → k ≤ s.last → is_live s k ≡ false → is_live (after s xs) k ≡ false
+pub gone-after : (s : Known) (k : ℕ) (xs : List Change) → k ≤ s.last → is_live s k ≡ false → is_live (after_changes s xs) k ≡ false
 gone-after s k [] given gone = gone
-gone-after s k (x ∷ xs) given gone = let one = gone-change s k x given gone in gone-after (change s x) k xs one.0 one.1
+gone-after s k (x ∷ xs) given gone = let one = gone-change s k x given gone in gone-after (after_change s x) k xs one.0 one.1
 
 -- ---- a number that ran is never admitted again
 
@@ -106,7 +110,7 @@ abbrev Passed : ℕ → Option ℕ → Type 0
 Passed n None = Unit {0}
 Passed n (Some m) = n ≤ m
 
-rose : (last n : ℕ) → admits (Some last) n ≡ Run → last < n
+rose : (last n : ℕ) → admission (Some last) n ≡ Run → last < n
 rose last n e = go (nat_lt last n) refl e
   where
     go : (b : Bool) → nat_lt last n ≡ b → cond b Run Old ≡ Run → last < n
@@ -114,31 +118,34 @@ rose last n e = go (nat_lt last n) refl e
     go false w e = absurd (cc)
 
 -- a number that is admitted leaves what it is above passed
-passed_replaced : (o : Option ℕ) (n m : ℕ) → admits o m ≡ Run → Passed n o → Passed n (replaced o m)
+passed_replaced : (o : Option ℕ) (n m : ℕ) → admission o m ≡ Run → Passed n o → Passed n (replaced o m)
 passed_replaced None n m run passed = tt
 passed_replaced (Some last) n m run passed = omega (arith, passed, rose last m run)
 
-passed-change : (s : Known) (k n : ℕ) (x : Change) → k ≤ s.last → AreAdmitted s (x ∷ []) → Passed n (number_in s.live k) → (k ≤ (change s x).last) × Passed n (number_in (change s x).live k)
+passed-change : (s : Known) (k n : ℕ) (x : Change) → k ≤ s.last → AreAdmitted s (x ∷ []) → Passed n (number_in s.live k)
+    → (k ≤ (after_change s x).last) × Passed n (number_in (after_change s x).live k)
 unfolding Keeps
 passed-change s k n Connects given admitted passed = keeps_connected (Passed n) s k given passed
 passed-change s k n (Expires session) given admitted passed = keeps_expired (Passed n) s k session given tt passed
 passed-change s k n (Runs session m) given admitted passed =
-    keeps_ran (Passed n) s k session m given (λ e. passed_replaced (number_in s.live k) n m (subst (λ (j : ℕ). admits (number_in s.live j) m ≡ Run) e admitted.0) passed) passed
+    keeps_ran (Passed n) s k session m given
+    (λ e. passed_replaced (number_in s.live k) n m (subst (λ (j : ℕ). admission (number_in s.live j) m ≡ Run) e admitted.0) passed) passed
 
 -- the first change is admitted, and the others after it
-first_admitted : (s : Known) (x : Change) (xs : List Change) → AreAdmitted s (x ∷ xs) → AreAdmitted s (x ∷ []) × AreAdmitted (change s x) xs
+first_admitted : (s : Known) (x : Change) (xs : List Change) → AreAdmitted s (x ∷ xs) → AreAdmitted s (x ∷ []) × AreAdmitted (after_change s x) xs
 first_admitted s Connects xs admitted = (tt, admitted)
 first_admitted s (Expires session) xs admitted = (tt, admitted)
 first_admitted s (Runs session number) xs admitted = ((admitted.0, tt), admitted.1)
 
-passed-after : (s : Known) (k n : ℕ) (xs : List Change) → k ≤ s.last → AreAdmitted s xs → Passed n (number_in s.live k) → Passed n (number_in (after s xs).live k)
+passed-after : (s : Known) (k n : ℕ) (xs : List Change) → k ≤ s.last → AreAdmitted s xs → Passed n (number_in s.live k)
+    → Passed n (number_in (after_changes s xs).live k)
 passed-after s k n [] given admitted passed = passed
 passed-after s k n (x ∷ xs) given admitted passed =
     let parts = first_admitted s x xs admitted in
     let one = passed-change s k n x given parts.0 passed in
-    passed-after (change s x) k n xs one.0 parts.1 one.1
+    passed-after (after_change s x) k n xs one.0 parts.1 one.1
 
-passed_stays : (o : Option ℕ) (n : ℕ) → Passed n o → admits o n ≡ Run → ⊥
+passed_stays : (o : Option ℕ) (n : ℕ) → Passed n o → admission o n ≡ Run → ⊥
 passed_stays None n passed run = cc
 passed_stays (Some last) n passed run = absurd (omega (arith, passed, rose last n run))
 
@@ -147,24 +154,25 @@ passed_now : (o : Option ℕ) (n : ℕ) → Passed n (replaced o n)
 passed_now None n = tt
 passed_now (Some m) n = omega arith
 
-pub never_again : (s : Known) (k n : ℕ) (xs : List Change) → k ≤ s.last → admits (number_in s.live k) n ≡ Run → AreAdmitted (ran s k n) xs → admits (number_in (after (ran s k n) xs).live k) n ≡ Run → ⊥
-unfolding ran
+pub never_again : (s : Known) (k n : ℕ) (xs : List Change) → k ≤ s.last → admission (number_in s.live k) n ≡ Run → AreAdmitted (after_run s k n) xs
+    → admission (number_in (after_changes (after_run s k n) xs).live k) n ≡ Run → ⊥
+unfolding after_run
 never_again s k n xs given run admitted =
-    passed_stays (number_in (after (ran s k n) xs).live k) n
-    (passed-after (ran s k n) k n xs given admitted (subst (Passed n) (sym (number-same s.live k n)) (passed_now (number_in s.live k) n)))
+    passed_stays (number_in (after_changes (after_run s k n) xs).live k) n
+    (passed-after (after_run s k n) k n xs given admitted (subst (Passed n) (sym (number-same s.live k n)) (passed_now (number_in s.live k) n)))
 
 -- ---- one request
 
-replaced_run : (o : Option ℕ) (n : ℕ) → admits o n ≡ Run → replaced o n ≡ Some n
+replaced_run : (o : Option ℕ) (n : ℕ) → admission o n ≡ Run → replaced o n ≡ Some n
 replaced_run None n e = absurd (cc)
 replaced_run (Some m) n e = refl
 
-pub runs : (s : Known) (k n : ℕ) → admits (number_in s.live k) n ≡ Run
-    → (number_in (ran s k n).live k ≡ Some n) × ((other : ℕ) → (other ≡ k → ⊥) → number_in (ran s k n).live other ≡ number_in s.live other)
-unfolding ran
+pub runs : (s : Known) (k n : ℕ) → admission (number_in s.live k) n ≡ Run
+    → (number_in (after_run s k n).live k ≡ Some n) × ((other : ℕ) → (other ≡ k → ⊥) → number_in (after_run s k n).live other ≡ number_in s.live other)
+unfolding after_run
 runs s k n e = (number-same s.live k n ∙ replaced_run (number_in s.live k) n e, λ other differs. number-other s.live k n other differs)
 
 -- a request that is old has a live session
-pub old_live : (o : Option ℕ) (n : ℕ) → Old ≡ admits o n → IsTrue (is_some o)
+pub old_live : (o : Option ℕ) (n : ℕ) → Old ≡ admission o n → IsTrue (is_some o)
 old_live None n e = absurd (cc)
 old_live (Some m) n e = refl

@@ -31,22 +31,22 @@ abbrev pub is_live : Known → ℕ → Bool
 is_live s session = is_some (number_in s.live session)
 
 -- one more session, above the last
-unfoldable pub connected : Known → Known
-connected s = record { last = s.last + 1; live = s.live ++ (record { session = s.last + 1; number = 0 }) ∷ [] }
+unfoldable pub after_connect : Known → Known
+after_connect s = record { last = s.last + 1; live = s.live ++ (record { session = s.last + 1; number = 0 }) ∷ [] }
 
 -- a session is live no longer
-unfoldable pub expired : Known → ℕ → Known
-expired s session = record s { live = filter (λ (x : Live). not (x.session == session)) s.live }
+unfoldable pub after_expiry : Known → ℕ → Known
+after_expiry s session = record s { live = filter (λ (x : Live). not (x.session == session)) s.live }
 
 -- a session in which a number runs
 abbrev pub with_number : ℕ → ℕ → Live → Live
 with_number session number x = if x.session == session then (record x { number = number }) else x
 
 -- a request of this number ran in a session
-unfoldable pub ran : Known → ℕ → ℕ → Known
-ran s session number = record s { live = map (with_number session number) s.live }
+unfoldable pub after_run : Known → ℕ → ℕ → Known
+after_run s session number = record s { live = map (with_number session number) s.live }
 
 -- what becomes of a request, by the last number run in its session
-abbrev pub admits : Option ℕ → ℕ → Admit
-admits None number = Expired
-admits (Some last) number = if nat_lt last number then Run else Old
+abbrev pub admission : Option ℕ → ℕ → Admit
+admission None number = Expired
+admission (Some last) number = if nat_lt last number then Run else Old

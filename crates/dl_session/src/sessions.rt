@@ -1,6 +1,6 @@
 ghost use Rattle.std.specs.Prelude.{◌≡◌, ℕ, ◌+◌, ◌-◌, ◌<◌, ◌≤◌, ◌≢◌, ◌^◌, IfOk, OnErr, All, MatchOption, Some, length, slice_index, IsTrue};
 ghost use Rattle.std.specs.List.Sorted.{IsStrictlyIncreasing};
-ghost use Rattle.dl_session.specs.Sessions.{none_known, connected, expired, ran, ids, number_in, is_live, admits};
+ghost use Rattle.dl_session.specs.Sessions.{none_known, after_connect, after_expiry, after_run, ids, number_in, is_live, admission};
 ghost use Rattle.dl_session.specs.Rises.{Rises};
 
 use crate::admit::Admit;
@@ -26,13 +26,16 @@ impl Model for Sessions {
 
     ghost view = { λ a. record { last = a.last; live = beside a.live.items a.numbers.items } };
 
-    ghost invariant = { λ a. Rises 0 a.last a.live.items × (length a.numbers.items ≡ length a.live.items) };
+    ghost invariant = { λ a. Rises 0 a.last a.live.items
+        × (length a.numbers.items ≡ length a.live.items) };
 }
 
 /// The place of a session among sessions in rising order.
 fn place(sessions: &[u64], session: u64) -> Option<usize>
     requires { (high : ℕ) × Rises 0 high sessions.now }
-    ensures { MatchOption result ((k : ℕ) → k < length sessions.now → slice_index sessions.now k ≢ session) (λ at. (at < length sessions.now) × (slice_index sessions.now at ≡ session)) }
+    ensures { MatchOption result
+        ((k : ℕ) → k < length sessions.now → slice_index sessions.now k ≢ session)
+        (λ at. (at < length sessions.now) × (slice_index sessions.now at ≡ session)) }
 {
     match sessions.binary_search(&session) {
         Ok(at) => Some(at),
@@ -55,7 +58,8 @@ impl Sessions {
     /// A new live session: one more than the last one, from 1. The greatest number is not given.
     pub fn connect(&mut self) -> Result<u64, NoMemory>
         requires { self.old.last < 2 ^ 64 - 1 }
-        ensures ok { IfOk result (λ session. (session ≡ self.old.last + 1) × (self.new ≡ connected self.old)) }
+        ensures ok { IfOk result (λ session. (session ≡ self.old.last + 1)
+            × (self.new ≡ after_connect self.old)) }
         ensures err { OnErr result (self.new ≡ self.old) }
     {
         let session = self.last + 1;
@@ -75,7 +79,7 @@ impl Sessions {
     /// The session is live no longer. Whether it was live.
     pub fn expire(&mut self, session: u64) -> bool
         ensures answer { result ≡ is_live self.old session }
-        ensures after { self.new ≡ expired self.old session }
+        ensures after { self.new ≡ after_expiry self.old session }
     {
         match place(&self.live, session) {
             Some(at) => {
@@ -90,7 +94,7 @@ impl Sessions {
     /// What becomes of a request with this session and number: it is expired where the session is not live, old where
     /// the number is not above the last one run in the session, and else it is run.
     pub fn admit(&self, session: u64, number: u32) -> Admit
-        ensures { result ≡ admits (number_in self.now.live session) number }
+        ensures { result ≡ admission (number_in self.now.live session) number }
     {
         match self.last_run(session) {
             Some(last) => {
@@ -106,8 +110,8 @@ impl Sessions {
 
     /// The request of this session and number ran.
     pub fn ran(&mut self, session: u64, number: u32)
-        requires { admits (number_in self.old.live session) number ≡ Admit.Run }
-        ensures { self.new ≡ ran self.old session number }
+        requires { admission (number_in self.old.live session) number ≡ Admit.Run }
+        ensures { self.new ≡ after_run self.old session number }
     {
         if let Some(at) = place(&self.live, session) {
             self.numbers[at] = number;

@@ -8,7 +8,7 @@ use Rattle.dl_types.specs.declared.one_answer.OneAnswer.TheVariants.{Made, Done}
 use Rattle.dl_types.specs.declared.why.Why.TheVariants.{NodeExists, BadVersion, NotEmpty, EphemeralParent, Spent}
 use Rattle.dl_tree.specs.declared.node.Node.{Node}
 use Rattle.dl_tree.specs.Paths.{parent_of, root}
-use Rattle.dl_tree.specs.Trees.{Nodes, Outcome, fits, create, created, set, delete, check, bytes_at, names, child_names, one, made_path, is_counted, counted_up, new_node, parent_in}
+use Rattle.dl_tree.specs.Trees.{Nodes, Outcome, fits, create_outcome, child_outcome, set_outcome, delete_outcome, check_outcome, get_outcome, children_outcome, child_names, outcome_of, made_path, is_counted, parent_after, new_node, parent_in}
 
 pub guard_ok : {A E : Type 0} (b : Bool) (d : E) (x : Result A E) (y : A) → cond b (Err d) x ≡ Ok y → x ≡ Ok y
 guard_ok true d x y e = absurd (cc)
@@ -31,15 +31,17 @@ pub record IsSet (t : Nodes) (path bytes : List ℕ) (u : Nodes) : Type 0 where
   pub there : get t path ≡ Some old
   pub is : u ≡ insert t path (record old { bytes = bytes; version = old.version + 1 })
 
-set_is : (t : Nodes) (path bytes : List ℕ) (version : Option ℕ) (r : OneAnswer × Nodes) (o : Option Node) → get t path ≡ o → set t path bytes version o ≡ Ok r → IsSet t path bytes r.1
+set_is : (t : Nodes) (path bytes : List ℕ) (version : Option ℕ) (r : OneAnswer × Nodes) (o : Option Node) → get t path ≡ o
+    → set_outcome t path bytes version o ≡ Ok r → IsSet t path bytes r.1
 set_is t path bytes version r None k e = absurd (cc)
 set_is t path bytes version r (Some n) k e =
     let a = guard_ok (not (fits version n)) (BadVersion n.version) _ r e in
     let b = guard_ok (n.version == 2 ^ 64 - 1) Spent _ r a in
     record { old = n; there = k; is = ap (λ (x : OneAnswer × Nodes). x.1) (sym (same_ok _ _ b)) }
 
-pub set_done : (t : Nodes) (session : ℕ) (path bytes : List ℕ) (version : Option ℕ) (r : OneAnswer × Nodes) → one t session (Set path bytes version) ≡ Ok r → IsSet t path bytes r.1
-unfolding one
+pub set_done : (t : Nodes) (session : ℕ) (path bytes : List ℕ) (version : Option ℕ) (r : OneAnswer × Nodes)
+    → outcome_of t session (Set path bytes version) ≡ Ok r → IsSet t path bytes r.1
+unfolding outcome_of
 set_done t session path bytes version r e = set_is t path bytes version r (get t path) refl e
 
 -- a creation that succeeded
@@ -48,14 +50,15 @@ pub record IsCreated (t : Nodes) (session : ℕ) (path bytes : List ℕ) (mode :
   pub there : get t (parent_of path) ≡ Some parent
   pub free : get t (made_path path mode parent) ≡ None
   pub answer : r.0 ≡ Made (made_path path mode parent)
-  pub is : r.1 ≡ insert (insert t (parent_of path) (counted_up mode parent)) (made_path path mode parent) (new_node bytes mode session)
+  pub is : r.1 ≡ insert (insert t (parent_of path) (parent_after mode parent)) (made_path path mode parent) (new_node bytes mode session)
 
 parent_is : {A : Type 0} (b : Bool) (o : Option A) (x : A) → cond b None o ≡ Some x → o ≡ Some x
 parent_is true o x e = absurd (cc)
 parent_is false o x e = e
 
-create_is : (t : Nodes) (session : ℕ) (path bytes : List ℕ) (mode : Mode) (r : OneAnswer × Nodes) (o : Option Node) → parent_in t path mode ≡ o → create t session path bytes mode o ≡ Ok r → IsCreated t session path bytes mode r
-unfolding created
+create_is : (t : Nodes) (session : ℕ) (path bytes : List ℕ) (mode : Mode) (r : OneAnswer × Nodes) (o : Option Node) → parent_in t path mode ≡ o
+    → create_outcome t session path bytes mode o ≡ Ok r → IsCreated t session path bytes mode r
+unfolding child_outcome
 create_is t session path bytes mode r None k e = absurd (cc)
 create_is t session path bytes mode r (Some n) k e =
     let a = guard_ok (is_some n.owner) EphemeralParent _ r e in
@@ -70,11 +73,13 @@ create_is t session path bytes mode r (Some n) k e =
       is = ap (λ (x : OneAnswer × Nodes). x.1) (sym same);
     }
 
-pub create_done : (t : Nodes) (session : ℕ) (path bytes : List ℕ) (mode : Mode) (r : OneAnswer × Nodes) → one t session (Create path bytes mode) ≡ Ok r → IsCreated t session path bytes mode r
-unfolding one
+pub create_done : (t : Nodes) (session : ℕ) (path bytes : List ℕ) (mode : Mode) (r : OneAnswer × Nodes) → outcome_of t session (Create path bytes mode) ≡ Ok r
+    → IsCreated t session path bytes mode r
+unfolding outcome_of
 create_done t session path bytes mode r e = create_is t session path bytes mode r (parent_in t path mode) refl e
 
-delete_is : (t : Nodes) (path : List ℕ) (version : Option ℕ) (r : OneAnswer × Nodes) (o : Option Node) → delete t path version o ≡ Ok r → r.1 ≡ remove t path
+delete_is : (t : Nodes) (path : List ℕ) (version : Option ℕ) (r : OneAnswer × Nodes) (o : Option Node) → delete_outcome t path version o ≡ Ok r
+    → r.1 ≡ remove t path
 delete_is t path version r None e = absurd (cc)
 delete_is t path version r (Some n) e =
     let a = guard_ok (bytes_eq path root) (NotEmpty (length (child_names t path))) _ r e in
@@ -82,30 +87,32 @@ delete_is t path version r (Some n) e =
     let c = guard_ok (not (length (child_names t path) == 0)) (NotEmpty (length (child_names t path))) (Ok (Done, remove t path)) r b in
     ap (λ (x : OneAnswer × Nodes). x.1) (sym (same_ok _ _ c))
 
-pub delete_done : (t : Nodes) (session : ℕ) (path : List ℕ) (version : Option ℕ) (r : OneAnswer × Nodes) → one t session (Delete path version) ≡ Ok r → r.1 ≡ remove t path
-unfolding one
+pub delete_done : (t : Nodes) (session : ℕ) (path : List ℕ) (version : Option ℕ) (r : OneAnswer × Nodes) → outcome_of t session (Delete path version) ≡ Ok r
+    → r.1 ≡ remove t path
+unfolding outcome_of
 delete_done t session path version r e = delete_is t path version r (get t path) e
 
-check_is : (t : Nodes) (version : Option ℕ) (r : OneAnswer × Nodes) (o : Option Node) → check t version o ≡ Ok r → r.1 ≡ t
+check_is : (t : Nodes) (version : Option ℕ) (r : OneAnswer × Nodes) (o : Option Node) → check_outcome t version o ≡ Ok r → r.1 ≡ t
 check_is t version r None e = absurd (cc)
 check_is t version r (Some n) e = ap (λ (x : OneAnswer × Nodes). x.1) (sym (same_ok _ _ (chosen_ok (fits version n) (BadVersion n.version) _ r e)))
 
-pub check_done : (t : Nodes) (session : ℕ) (path : List ℕ) (version : Option ℕ) (r : OneAnswer × Nodes) → one t session (Check path version) ≡ Ok r → r.1 ≡ t
-unfolding one
+pub check_done : (t : Nodes) (session : ℕ) (path : List ℕ) (version : Option ℕ) (r : OneAnswer × Nodes) → outcome_of t session (Check path version) ≡ Ok r
+    → r.1 ≡ t
+unfolding outcome_of
 check_done t session path version r e = check_is t version r (get t path) e
 
-get_is : (t : Nodes) (r : OneAnswer × Nodes) (o : Option Node) → bytes_at t o ≡ Ok r → r.1 ≡ t
+get_is : (t : Nodes) (r : OneAnswer × Nodes) (o : Option Node) → get_outcome t o ≡ Ok r → r.1 ≡ t
 get_is t r None e = absurd (cc)
 get_is t r (Some n) e = ap (λ (x : OneAnswer × Nodes). x.1) (sym (same_ok _ _ e))
 
-pub get_done : (t : Nodes) (session : ℕ) (path : List ℕ) (r : OneAnswer × Nodes) → one t session (Get path) ≡ Ok r → r.1 ≡ t
-unfolding one
+pub get_done : (t : Nodes) (session : ℕ) (path : List ℕ) (r : OneAnswer × Nodes) → outcome_of t session (Get path) ≡ Ok r → r.1 ≡ t
+unfolding outcome_of
 get_done t session path r e = get_is t r (get t path) e
 
-names_is : (t : Nodes) (path : List ℕ) (r : OneAnswer × Nodes) (o : Option Node) → names t path o ≡ Ok r → r.1 ≡ t
+names_is : (t : Nodes) (path : List ℕ) (r : OneAnswer × Nodes) (o : Option Node) → children_outcome t path o ≡ Ok r → r.1 ≡ t
 names_is t path r None e = absurd (cc)
 names_is t path r (Some n) e = ap (λ (x : OneAnswer × Nodes). x.1) (sym (same_ok _ _ e))
 
-pub children_done : (t : Nodes) (session : ℕ) (path : List ℕ) (r : OneAnswer × Nodes) → one t session (Children path) ≡ Ok r → r.1 ≡ t
-unfolding one
+pub children_done : (t : Nodes) (session : ℕ) (path : List ℕ) (r : OneAnswer × Nodes) → outcome_of t session (Children path) ≡ Ok r → r.1 ≡ t
+unfolding outcome_of
 children_done t session path r e = names_is t path r (get t path) e

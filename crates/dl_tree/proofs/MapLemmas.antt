@@ -9,7 +9,7 @@ use Rattle.std.specs.Ordering.{nat_cmp, eq_by_cmp}
 use Rattle.std.specs.FinMap.{get, get-insert, get-remove, same_map}
 use Rattle.dl_tree.specs.declared.node.Node.{Node}
 use Rattle.dl_tree.specs.Trees.{Nodes}
-use Rattle.dl_tree.specs.Slots.{put}
+use Rattle.dl_tree.specs.Slots.{with_node}
 
 -- whether two paths are the same
 abbrev pub same_path : List ℕ → List ℕ → Bool
@@ -31,15 +31,15 @@ path_other q p apart = go (cases_Bool (same_path q p))
     go (inl e) = absurd (apart (path_is q p e))
     go (inr e) = e
 
-pub get-put : (t : Nodes) (p : List ℕ) (o : Option Node) (q : List ℕ) → get (put t p o) q ≡ cond (same_path q p) o (get t q)
-get-put t p None q = get-remove nat_list_cmp_total t p q
-get-put t p (Some n) q = get-insert nat_list_cmp_total t p n q
+pub get-with_node : (t : Nodes) (p : List ℕ) (o : Option Node) (q : List ℕ) → get (with_node t p o) q ≡ cond (same_path q p) o (get t q)
+get-with_node t p None q = get-remove nat_list_cmp_total t p q
+get-with_node t p (Some n) q = get-insert nat_list_cmp_total t p n q
 
-pub get-put_same : (t : Nodes) (p : List ℕ) (o : Option Node) → get (put t p o) p ≡ o
-get-put_same t p o = get-put t p o p ∙ cond-true _ _ _ (path_itself p)
+pub get-with_node_same : (t : Nodes) (p : List ℕ) (o : Option Node) → get (with_node t p o) p ≡ o
+get-with_node_same t p o = get-with_node t p o p ∙ cond-true _ _ _ (path_itself p)
 
-pub get-put_other : (t : Nodes) (p : List ℕ) (o : Option Node) (q : List ℕ) → (q ≡ p → ⊥) → get (put t p o) q ≡ get t q
-get-put_other t p o q apart = get-put t p o q ∙ cond-false _ _ _ (path_other q p apart)
+pub get-with_node_other : (t : Nodes) (p : List ℕ) (o : Option Node) (q : List ℕ) → (q ≡ p → ⊥) → get (with_node t p o) q ≡ get t q
+get-with_node_other t p o q apart = get-with_node t p o q ∙ cond-false _ _ _ (path_other q p apart)
 
 pub same_tree : (t u : Nodes) → ((q : List ℕ) → get t q ≡ get u q) → t ≡ u
 same_tree t u each = same_map nat_list_cmp_total exact_bytes t u each
@@ -49,12 +49,12 @@ again true x y z = refl
 again false x y z = refl
 
 -- what stood at a path, put back, undoes a change there
-pub put_back : (t : Nodes) (p : List ℕ) (o : Option Node) → put (put t p o) p (get t p) ≡ t
+pub put_back : (t : Nodes) (p : List ℕ) (o : Option Node) → with_node (with_node t p o) p (get t p) ≡ t
 put_back t p o = same_tree _ _ each
   where
-    each : (q : List ℕ) → get (put (put t p o) p (get t p)) q ≡ get t q
-    each q = get-put (put t p o) p (get t p) q ∙ go (cases_Bool (same_path q p))
+    each : (q : List ℕ) → get (with_node (with_node t p o) p (get t p)) q ≡ get t q
+    each q = get-with_node (with_node t p o) p (get t p) q ∙ go (cases_Bool (same_path q p))
       where
-        go : (same_path q p ≡ true) ⊎ (same_path q p ≡ false) → cond (same_path q p) (get t p) (get (put t p o) q) ≡ get t q
+        go : (same_path q p ≡ true) ⊎ (same_path q p ≡ false) → cond (same_path q p) (get t p) (get (with_node t p o) q) ≡ get t q
         go (inl e) = cond-true _ _ _ e ∙ ap (get t) (sym (path_is q p e))
-        go (inr e) = cond-false _ _ _ e ∙ get-put t p o q ∙ cond-false _ _ _ e
+        go (inr e) = cond-false _ _ _ e ∙ get-with_node t p o q ∙ cond-false _ _ _ e

@@ -8,11 +8,12 @@ use Rattle.dl_types.specs.declared.meta_op.MetaOp.{MetaOp}
 use Rattle.dl_types.specs.declared.why.Why.{Why}
 use Rattle.dl_types.specs.declared.meta_answer.MetaAnswer.TheVariants as answer
 use Rattle.dl_tree.specs.declared.node.Node.{Node}
-use Rattle.dl_tree.specs.Trees.{Nodes, one, applied, is_owned, without_session}
+use Rattle.dl_tree.specs.Trees.{Nodes, outcome_of, after_request, is_owned, without_session}
 
 -- a request that fails changes nothing
 abbrev pub FailedIsNothing : Type 0
-FailedIsNothing = (t : Nodes) (session place : ℕ) (op : MetaOp) (why : Why) → (applied t session op).0 ≡ answer.Failed place why → (applied t session op).1 ≡ t
+FailedIsNothing =
+    (t : Nodes) (session place : ℕ) (op : MetaOp) (why : Why) → (after_request t session op).0 ≡ answer.Failed place why → (after_request t session op).1 ≡ t
 
 -- a node that was set: its version is one more, and owner and counter stay
 abbrev pub set_node : List ℕ → Node → Node
@@ -20,12 +21,15 @@ set_node bytes n = record n { bytes = bytes; version = n.version + 1 }
 
 -- a set raises the version of its node by one, and changes no other node
 abbrev pub SetRaisesByOne : Type 0
-SetRaisesByOne = (t : Nodes) (session : ℕ) (path bytes : List ℕ) (version : Option ℕ) (r : OneAnswer × Nodes) → one t session (Set path bytes version) ≡ Ok r
+SetRaisesByOne =
+    (t : Nodes) (session : ℕ) (path bytes : List ℕ) (version : Option ℕ) (r : OneAnswer × Nodes) → outcome_of t session (Set path bytes version) ≡ Ok r
     → (n : Node) × (get t path ≡ Some n) × (get r.1 path ≡ Some (set_node bytes n)) × ((q : List ℕ) → (q ≡ path → ⊥) → get r.1 q ≡ get t q)
 
 -- while a node stays, its owner stays, and neither its version nor its counter falls
 abbrev pub OwnerStays : Type 0
-OwnerStays = (t : Nodes) (session : ℕ) (x : OneOp) (r : OneAnswer × Nodes) (q : List ℕ) (n m : Node) → one t session x ≡ Ok r → get t q ≡ Some n → get r.1 q ≡ Some m
+OwnerStays =
+    (t : Nodes) (session : ℕ) (x : OneOp) (r : OneAnswer × Nodes) (q : List ℕ) (n m : Node) → outcome_of t session x ≡ Ok r → get t q ≡ Some n
+    → get r.1 q ≡ Some m
     → (m.owner ≡ n.owner) × (n.version ≤ m.version) × (n.counter ≤ m.counter)
 
 -- a session owns no node
@@ -35,5 +39,5 @@ OwnsNone t session = (q : List ℕ) → is_owned session (get t q) ≡ false
 -- a session that ended owns no node, and requests of other sessions, and their ends, leave it so
 abbrev pub EndedOwnsNone : Type 0
 EndedOwnsNone = ((t : Nodes) (session : ℕ) → OwnsNone (without_session t session) session)
-    × ((t : Nodes) (session other : ℕ) (op : MetaOp) → (session ≡ other → ⊥) → OwnsNone t session → OwnsNone (applied t other op).1 session)
+    × ((t : Nodes) (session other : ℕ) (op : MetaOp) → (session ≡ other → ⊥) → OwnsNone t session → OwnsNone (after_request t other op).1 session)
     × ((t : Nodes) (session other : ℕ) → OwnsNone t session → OwnsNone (without_session t other) session)

@@ -15,16 +15,16 @@ unfoldable pub front_of : List ℕ → List ℕ
 front_of path = take (length path - last_length path) path
 
 -- a path, without the slash that is the root's, and one more byte
-abbrev pub extended : List ℕ → ℕ → List ℕ
-extended path byte = if bytes_eq path root then byte ∷ [] else path ++ byte ∷ []
+abbrev pub with_byte : List ℕ → ℕ → List ℕ
+with_byte path byte = if bytes_eq path root then byte ∷ [] else path ++ byte ∷ []
 
 -- with which the path of each child of a node begins
 abbrev pub below : List ℕ → List ℕ
-below path = extended path 47
+below path = with_byte path 47
 
 -- the least path, in byte order, above all that begin so
 abbrev pub past_below : List ℕ → List ℕ
-past_below path = extended path 48
+past_below path = with_byte path 48
 
 -- the path of a node's parent
 unfoldable pub parent_of : List ℕ → List ℕ

@@ -13,19 +13,19 @@ use Rattle.dl_tree.specs.Paths.{name_of, is_below}
 use Rattle.dl_tree.specs.Trees.{Nodes}
 
 -- a tree with a node, or none, at a path
-abbrev pub put : Nodes → List ℕ → Option Node → Nodes
-put t path None = remove t path
-put t path (Some n) = insert t path n
+abbrev pub with_node : Nodes → List ℕ → Option Node → Nodes
+with_node t path None = remove t path
+with_node t path (Some n) = insert t path n
 
 -- the tree that slots stand for
 abbrev pub tree_in : List (List ℕ × Option Node) → Nodes
 tree_in [] = empty
-tree_in (e ∷ es) = put (tree_in es) e.0 e.1
+tree_in (e ∷ es) = with_node (tree_in es) e.0 e.1
 
 -- the tree before changes, of which the last one is the newest
-abbrev pub undone : Nodes → List Change → Nodes
-undone t [] = t
-undone t (c ∷ cs) = put (undone t cs) c.path c.before
+abbrev pub tree_before : Nodes → List Change → Nodes
+tree_before t [] = t
+tree_before t (c ∷ cs) = with_node (tree_before t cs) c.path c.before
 
 -- a path has a slot
 abbrev pub has_slot : List (List ℕ × Option Node) → List ℕ → Type 0

@@ -23,9 +23,13 @@ use Rattle.dl_tree.specs.Paths.{root, parent_of, name_of, is_child}
 abbrev pub Nodes : Type 0
 Nodes = FinMap (slice_cmp nat_cmp) Node
 
+-- a node of these fields
+abbrev pub node : List ℕ → ℕ → Option ℕ → ℕ → Node
+node bytes version owner counter = record { bytes = bytes; version = version; owner = owner; counter = counter }
+
 -- the root alone
 abbrev pub root_alone : Nodes
-root_alone = insert empty root (record { bytes = []; version = 0; owner = None; counter = 0 })
+root_alone = insert empty root (node [] 0 None 0)
 
 -- the paths of a node's children, in byte order
 abbrev pub children : Nodes → List ℕ → List (List ℕ)
@@ -63,68 +67,68 @@ abbrev pub made_path : List ℕ → Mode → Node → List ℕ
 made_path path mode parent = if is_counted mode then path ++ digits 10 parent.counter else path
 
 -- the parent after a creation: a counted one raises its counter
-abbrev pub counted_up : Mode → Node → Node
-counted_up mode parent = record parent { counter = if is_counted mode then parent.counter + 1 else parent.counter }
+abbrev pub parent_after : Mode → Node → Node
+parent_after mode parent = record parent { counter = if is_counted mode then parent.counter + 1 else parent.counter }
 
 -- a new node
 abbrev pub new_node : List ℕ → Mode → ℕ → Node
-new_node bytes mode session = record { bytes = bytes; version = 0; owner = owner_of mode session; counter = 0 }
+new_node bytes mode session = node bytes 0 (owner_of mode session) 0
 
 -- a creation below a parent that is there
-unfoldable pub created : Nodes → ℕ → List ℕ → List ℕ → Mode → Node → Outcome
-created t session path bytes mode parent =
+unfoldable pub child_outcome : Nodes → ℕ → List ℕ → List ℕ → Mode → Node → Outcome
+child_outcome t session path bytes mode parent =
     if is_some parent.owner then Err EphemeralParent
     else (if is_counted mode && nat_le (10 ^ 10) parent.counter then Err Spent
     else (if is_some (get t (made_path path mode parent)) then Err NodeExists
     else Ok (
       Made (made_path path mode parent),
-      insert (insert t (parent_of path) (counted_up mode parent)) (made_path path mode parent) (new_node bytes mode session),
+      insert (insert t (parent_of path) (parent_after mode parent)) (made_path path mode parent) (new_node bytes mode session),
     )))
 
 -- the parent of a node to be made; the root has none, but a name that is counted at the root has the root
 abbrev pub parent_in : Nodes → List ℕ → Mode → Option Node
 parent_in t path mode = if bytes_eq path root && not (is_counted mode) then None else get t (parent_of path)
 
-abbrev pub create : Nodes → ℕ → List ℕ → List ℕ → Mode → Option Node → Outcome
-create t session path bytes mode None = Err NoNode
-create t session path bytes mode (Some parent) = created t session path bytes mode parent
+abbrev pub create_outcome : Nodes → ℕ → List ℕ → List ℕ → Mode → Option Node → Outcome
+create_outcome t session path bytes mode None = Err NoNode
+create_outcome t session path bytes mode (Some parent) = child_outcome t session path bytes mode parent
 
 -- a deletion; the root is never deleted
-abbrev pub delete : Nodes → List ℕ → Option ℕ → Option Node → Outcome
-delete t path version None = Err NoNode
-delete t path version (Some n) =
+abbrev pub delete_outcome : Nodes → List ℕ → Option ℕ → Option Node → Outcome
+delete_outcome t path version None = Err NoNode
+delete_outcome t path version (Some n) =
     if bytes_eq path root then Err (NotEmpty (length (child_names t path)))
     else (if not (fits version n) then Err (BadVersion n.version)
     else (if not (length (child_names t path) == 0) then Err (NotEmpty (length (child_names t path)))
     else Ok (Done, remove t path)))
 
-abbrev pub set : Nodes → List ℕ → List ℕ → Option ℕ → Option Node → Outcome
-set t path bytes version None = Err NoNode
-set t path bytes version (Some n) =
+abbrev pub set_outcome : Nodes → List ℕ → List ℕ → Option ℕ → Option Node → Outcome
+set_outcome t path bytes version None = Err NoNode
+set_outcome t path bytes version (Some n) =
     if not (fits version n) then Err (BadVersion n.version)
     else (if n.version == 2 ^ 64 - 1 then Err Spent
     else Ok (Version (n.version + 1), insert t path (record n { bytes = bytes; version = n.version + 1 })))
 
-abbrev pub check : Nodes → Option ℕ → Option Node → Outcome
-check t version None = Err NoNode
-check t version (Some n) = if fits version n then Ok (Done, t) else Err (BadVersion n.version)
+abbrev pub check_outcome : Nodes → Option ℕ → Option Node → Outcome
+check_outcome t version None = Err NoNode
+check_outcome t version (Some n) = if fits version n then Ok (Done, t) else Err (BadVersion n.version)
 
-abbrev pub bytes_at : Nodes → Option Node → Outcome
-bytes_at t None = Err NoNode
-bytes_at t (Some n) = Ok (Bytes n.bytes n.version, t)
+abbrev pub get_outcome : Nodes → Option Node → Outcome
+get_outcome t None = Err NoNode
+get_outcome t (Some n) = Ok (Bytes n.bytes n.version, t)
 
-abbrev pub names : Nodes → List ℕ → Option Node → Outcome
-names t path None = Err NoNode
-names t path (Some n) = Ok (Names (child_names t path), t)
+abbrev pub children_outcome : Nodes → List ℕ → Option Node → Outcome
+children_outcome t path None = Err NoNode
+children_outcome t path (Some n) = Ok (Names (child_names t path), t)
 
 -- one operation of a session, the first row that holds
-unfoldable pub one : Nodes → ℕ → OneOp → Outcome
-one t session (Create path bytes mode) = create t session path bytes mode (parent_in t path mode)
-one t session (Delete path version) = delete t path version (get t path)
-one t session (Set path bytes version) = set t path bytes version (get t path)
-one t session (Check path version) = check t version (get t path)
-one t session (Get path) = bytes_at t (get t path)
-one t session (Children path) = names t path (get t path)
+unfoldable pub outcome_of : Nodes → ℕ → OneOp → Outcome
+outcome_of t session (Create path bytes mode) = create_outcome t session path bytes mode (parent_in t path mode)
+outcome_of t session (Delete path version) = delete_outcome t path version (get t path)
+outcome_of t session (Set path bytes version) = set_outcome t path bytes version (get t path)
+outcome_of t session (Check path version) = check_outcome t version (get t path)
+outcome_of t session (Get path) = get_outcome t (get t path)
+outcome_of t session (Children path) = children_outcome t path (get t path)
 
 -- all answers and the last tree, or the place and the reason of the first failure
 abbrev pub Run : Type 0
@@ -139,9 +143,9 @@ then_rest (Ok r) place rest = with_front r.0 (rest r.1)
 then_rest (Err why) place rest = Err (place, why)
 
 -- operations in order, each on the tree that the earlier ones leave
-unfoldable pub all : Nodes → ℕ → ℕ → List OneOp → Run
-all t session place [] = Ok ([], t)
-all t session place (x ∷ xs) = then_rest (one t session x) place (λ next. all next session (place + 1) xs)
+unfoldable pub run_of : Nodes → ℕ → ℕ → List OneOp → Run
+run_of t session place [] = Ok ([], t)
+run_of t session place (x ∷ xs) = then_rest (outcome_of t session x) place (λ next. run_of next session (place + 1) xs)
 
 abbrev pub after_one : Nodes → Outcome → MetaAnswer × Nodes
 after_one t (Ok r) = (answer.One r.0, r.1)
@@ -152,9 +156,9 @@ after_all t (Ok r) = (answer.Many r.0, r.1)
 after_all t (Err e) = (answer.Failed e.0 e.1, t)
 
 -- a request: its answer, and the tree that it leaves; after a failure that is the tree before
-unfoldable pub applied : Nodes → ℕ → MetaOp → MetaAnswer × Nodes
-applied t session (op.One x) = after_one t (one t session x)
-applied t session (op.Multi ops) = after_all t (all t session 0 ops)
+unfoldable pub after_request : Nodes → ℕ → MetaOp → MetaAnswer × Nodes
+after_request t session (op.One x) = after_one t (outcome_of t session x)
+after_request t session (op.Multi ops) = after_all t (run_of t session 0 ops)
 
 -- a request has no more operations than there are places
 abbrev pub HasPlaces : MetaOp → Type 0

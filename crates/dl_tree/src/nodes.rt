@@ -1,7 +1,7 @@
 ghost use Rattle.std.specs.Prelude.{◌≡◌, ℕ, IfOk, OnOk, OnErr, Some, None, List, ◌||◌, is_none};
 ghost use Rattle.std.specs.Option.{option_copied};
 ghost use Rattle.std.specs.FinMap.{get};
-ghost use Rattle.dl_tree.specs.Slots.{put, tree_in, has_slot};
+ghost use Rattle.dl_tree.specs.Slots.{with_node, tree_in, has_slot};
 ghost use Rattle.dl_tree.specs.Trees.{root_alone, without_session, is_owned, child_names};
 
 use crate::node::Node;
@@ -33,13 +33,13 @@ pub(crate) struct Nodes {
 impl Model for Nodes {
     ghost use Rattle.std.specs.Coded.{coded×};
     ghost use Rattle.dl_tree.specs.Trees.{Nodes as Seen};
-    ghost use Rattle.dl_tree.specs.Slots.{nodes_code, tree_in, undone, Covers};
+    ghost use Rattle.dl_tree.specs.Slots.{nodes_code, tree_in, tree_before, Covers};
 
     ghost Value = { Seen × Seen };
 
     ghost coded = { coded× nodes_code nodes_code };
 
-    ghost view = { λ a. (tree_in a.slots.entries, undone (tree_in a.slots.entries) a.changes.items) };
+    ghost view = { λ a. let t = tree_in a.slots.entries in (t, tree_before t a.changes.items) };
 
     ghost invariant = { λ a. Covers a.slots.entries a.changes.items };
 }
@@ -65,7 +65,7 @@ fn sweep_all(slots: &mut BTreeMap<Path, Option<Node>>, paths: &mut Vec<Path>)
 /// Puts back what a path had before a change. The path has a slot, so no memory is taken.
 fn restore(slots: &mut BTreeMap<Path, Option<Node>>, path: Path, before: Option<Node>)
     requires { has_slot slots.old.entries path }
-    ensures tree { tree_in slots.new.entries ≡ put (tree_in slots.old.entries) path before }
+    ensures tree { tree_in slots.new.entries ≡ with_node (tree_in slots.old.entries) path before }
     ensures kept { (q : List ℕ) → has_slot slots.old.entries q → has_slot slots.new.entries q }
 {
     let _ = slots.insert(path, before);
@@ -105,7 +105,7 @@ impl Nodes {
 
     /// Puts a node, or none, at a path.
     pub(crate) fn put(&mut self, path: &Path, node: Option<Node>) -> Result<(), NoMemory>
-        ensures ok { OnOk result (self.new ≡ (put self.old.0 path.now node, self.old.1)) }
+        ensures ok { OnOk result (self.new ≡ (with_node self.old.0 path.now node, self.old.1)) }
         ensures err { OnErr result (self.new ≡ self.old) }
     {
         let key = path.share()?;
@@ -156,7 +156,7 @@ impl Nodes {
 
     /// Takes out the nodes that a session owns, as one change.
     pub(crate) fn drop_owned(&mut self, session: u64)
-        ensures { self.new ≡ (without_session self.old.0 session, without_session self.old.0 session) }
+        ensures { let t = without_session self.old.0 session in self.new ≡ (t, t) }
     {
         self.changes.clear();
         self.touched.clear();

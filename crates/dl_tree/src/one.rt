@@ -2,7 +2,7 @@ ghost use Rattle.std.specs.Prelude.{◌≡◌, ℕ, Ok, IfOk, IfErr, ◌&&◌, �
 ghost use Rattle.std.specs.FinMap.{get};
 ghost use Rattle.dl_tree.specs.Faults.{IsFault};
 ghost use Rattle.dl_tree.specs.Paths.{parent_of, root};
-ghost use Rattle.dl_tree.specs.Trees.{fits, is_counted, owner_of, counted_up, made_path, create, created, parent_in, delete, set, check, bytes_at, names, one};
+ghost use Rattle.dl_tree.specs.Trees.{fits, is_counted, owner_of, parent_after, made_path, create_outcome, child_outcome, parent_in, delete_outcome, set_outcome, check_outcome, get_outcome, children_outcome, outcome_of};
 
 use crate::fault::OneFault;
 use crate::node::Node;
@@ -54,9 +54,10 @@ fn owner_of(mode: Mode, session: u64) -> Option<u64>
 
 /// A check of a node.
 pub(crate) fn check(nodes: &Nodes, path: &Path, version: Option<u64>) -> Result<OneAnswer, OneFault>
-    ensures ok { IfOk result (λ a. check nodes.now.0 version (get nodes.now.0 path.now)
+    ensures ok { IfOk result (λ a. check_outcome nodes.now.0 version (get nodes.now.0 path.now)
         ≡ Ok (a, nodes.now.0)) }
-    ensures err { IfErr result (IsFault (check nodes.now.0 version (get nodes.now.0 path.now))) }
+    ensures err { IfErr result (IsFault (check_outcome nodes.now.0 version
+        (get nodes.now.0 path.now))) }
 {
     match nodes.get(path) {
         Some(node) => {
@@ -72,8 +73,9 @@ pub(crate) fn check(nodes: &Nodes, path: &Path, version: Option<u64>) -> Result<
 
 /// A node's bytes and version.
 pub(crate) fn bytes_at(nodes: &Nodes, path: &Path) -> Result<OneAnswer, OneFault>
-    ensures ok { IfOk result (λ a. bytes_at nodes.now.0 (get nodes.now.0 path.now) ≡ Ok (a, nodes.now.0)) }
-    ensures err { IfErr result (IsFault (bytes_at nodes.now.0 (get nodes.now.0 path.now))) }
+    ensures ok { IfOk result (λ a. get_outcome nodes.now.0 (get nodes.now.0 path.now)
+        ≡ Ok (a, nodes.now.0)) }
+    ensures err { IfErr result (IsFault (get_outcome nodes.now.0 (get nodes.now.0 path.now))) }
 {
     match nodes.get(path) {
         Some(node) => {
@@ -87,9 +89,10 @@ pub(crate) fn bytes_at(nodes: &Nodes, path: &Path) -> Result<OneAnswer, OneFault
 
 /// The names of a node's children.
 pub(crate) fn names(nodes: &Nodes, alloc: Global, path: &Path) -> Result<OneAnswer, OneFault>
-    ensures ok { IfOk result (λ a. names nodes.now.0 path.now (get nodes.now.0 path.now)
+    ensures ok { IfOk result (λ a. children_outcome nodes.now.0 path.now (get nodes.now.0 path.now)
         ≡ Ok (a, nodes.now.0)) }
-    ensures err { IfErr result (IsFault (names nodes.now.0 path.now (get nodes.now.0 path.now))) }
+    ensures err { IfErr result (IsFault (children_outcome nodes.now.0 path.now
+        (get nodes.now.0 path.now))) }
 {
     match nodes.get(path) {
         Some(_node) => {
@@ -110,7 +113,7 @@ fn is_spent(mode: Mode, counter: u64) -> bool
 /// The parent after a creation.
 fn counted_up(mode: Mode, parent: Node) -> Node
     requires { (is_counted mode && nat_le (10 ^ 10) parent.counter) ≡ false }
-    ensures { result ≡ counted_up mode parent }
+    ensures { result ≡ parent_after mode parent }
 {
     if is_counted(mode) {
         Node {
@@ -136,7 +139,7 @@ fn made_path(alloc: Global, path: &Path, mode: Mode, parent: &Node) -> Result<Pa
 }
 
 /// A creation below a parent that is there.
-#[tactic(auto, unfolding(crate::specs::Trees::created))]
+#[tactic(auto, unfolding(crate::specs::Trees::child_outcome))]
 fn create_below(
     nodes: &mut Nodes,
     alloc: Global,
@@ -148,9 +151,10 @@ fn create_below(
     mode: Mode,
 ) -> Result<OneAnswer, OneFault>
     requires { above.now ≡ parent_of path.now }
-    ensures ok { IfOk result (λ a. created nodes.old.0 session path.now bytes.now mode parent
+    ensures ok { IfOk result (λ a. child_outcome nodes.old.0 session path.now bytes.now mode parent
         ≡ Ok (a, nodes.new.0)) }
-    ensures err { IfErr result (IsFault (created nodes.old.0 session path.now bytes.now mode parent)) }
+    ensures err { IfErr result (IsFault (child_outcome nodes.old.0 session path.now bytes.now
+        mode parent)) }
     ensures back { nodes.new.1 ≡ nodes.old.1 }
 {
     if parent.owner.is_some() {
@@ -183,9 +187,9 @@ pub(crate) fn create(
     bytes: &Body,
     mode: Mode,
 ) -> Result<OneAnswer, OneFault>
-    ensures ok { IfOk result (λ a. create nodes.old.0 session path.now bytes.now mode
+    ensures ok { IfOk result (λ a. create_outcome nodes.old.0 session path.now bytes.now mode
         (parent_in nodes.old.0 path.now mode) ≡ Ok (a, nodes.new.0)) }
-    ensures err { IfErr result (IsFault (create nodes.old.0 session path.now bytes.now mode
+    ensures err { IfErr result (IsFault (create_outcome nodes.old.0 session path.now bytes.now mode
         (parent_in nodes.old.0 path.now mode))) }
     ensures back { nodes.new.1 ≡ nodes.old.1 }
 {
@@ -216,9 +220,10 @@ pub(crate) fn delete(
     path: &Path,
     version: Option<u64>,
 ) -> Result<OneAnswer, OneFault>
-    ensures ok { IfOk result (λ a. delete nodes.old.0 path.now version (get nodes.old.0 path.now)
-        ≡ Ok (a, nodes.new.0)) }
-    ensures err { IfErr result (IsFault (delete nodes.old.0 path.now version (get nodes.old.0 path.now))) }
+    ensures ok { IfOk result (λ a. delete_outcome nodes.old.0 path.now version
+        (get nodes.old.0 path.now) ≡ Ok (a, nodes.new.0)) }
+    ensures err { IfErr result (IsFault (delete_outcome nodes.old.0 path.now version
+        (get nodes.old.0 path.now))) }
     ensures back { nodes.new.1 ≡ nodes.old.1 }
 {
     match nodes.get(path) {
@@ -246,9 +251,9 @@ pub(crate) fn set(
     bytes: &Body,
     version: Option<u64>,
 ) -> Result<OneAnswer, OneFault>
-    ensures ok { IfOk result (λ a. set nodes.old.0 path.now bytes.now version (get nodes.old.0 path.now)
-        ≡ Ok (a, nodes.new.0)) }
-    ensures err { IfErr result (IsFault (set nodes.old.0 path.now bytes.now version
+    ensures ok { IfOk result (λ a. set_outcome nodes.old.0 path.now bytes.now version
+        (get nodes.old.0 path.now) ≡ Ok (a, nodes.new.0)) }
+    ensures err { IfErr result (IsFault (set_outcome nodes.old.0 path.now bytes.now version
         (get nodes.old.0 path.now))) }
     ensures back { nodes.new.1 ≡ nodes.old.1 }
 {
@@ -275,15 +280,15 @@ pub(crate) fn set(
 }
 
 /// One operation of a session. After a failure the nodes may have changed on the way, and wait to go back.
-#[tactic(auto, unfolding(crate::specs::Trees::one))]
+#[tactic(auto, unfolding(crate::specs::Trees::outcome_of))]
 pub(crate) fn one(
     nodes: &mut Nodes,
     alloc: Global,
     session: u64,
     op: &OneOp,
 ) -> Result<OneAnswer, OneFault>
-    ensures ok { IfOk result (λ a. one nodes.old.0 session op.now ≡ Ok (a, nodes.new.0)) }
-    ensures err { IfErr result (IsFault (one nodes.old.0 session op.now)) }
+    ensures ok { IfOk result (λ a. outcome_of nodes.old.0 session op.now ≡ Ok (a, nodes.new.0)) }
+    ensures err { IfErr result (IsFault (outcome_of nodes.old.0 session op.now)) }
     ensures back { nodes.new.1 ≡ nodes.old.1 }
 {
     match op {

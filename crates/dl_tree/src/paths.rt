@@ -1,7 +1,7 @@
 ghost use Rattle.std.specs.Prelude.{◌≡◌, ℕ, ◌==◌, ◌++◌, not, ◌-◌, ◌≤◌, length, IfOk, bytes_eq};
 ghost use Rattle.dl_fields.specs.Digits.{digits};
 ghost use Rattle.dl_fields.specs.Paths.{last_length};
-ghost use Rattle.dl_tree.specs.Paths.{name_of, front_of, parent_of, extended, below, past_below, is_below, root};
+ghost use Rattle.dl_tree.specs.Paths.{name_of, front_of, parent_of, with_byte, below, past_below, is_below, root};
 
 use dl_fields::digits::put_digits;
 use dl_fields::path::last_length;
@@ -37,7 +37,7 @@ pub(crate) fn is_below(prefix: &[u8], path: &[u8]) -> bool
 
 /// A path, without the slash that is the root's, and one more byte.
 fn extended(alloc: Global, path: &[u8], byte: u8) -> Result<Path, NoMemory>
-    ensures { IfOk result (λ made. made ≡ extended path.now byte) }
+    ensures { IfOk result (λ made. made ≡ with_byte path.now byte) }
 {
     let mut text = Vec::new(alloc);
     if !is_root(path) {

@@ -1,6 +1,6 @@
 ghost use Rattle.std.specs.Prelude.{◌≡◌, ◌≤◌, Ok, IfOk, IfErr, length};
 ghost use Rattle.dl_tree.specs.Faults.{IsRunFault, at_place};
-ghost use Rattle.dl_tree.specs.Trees.{all};
+ghost use Rattle.dl_tree.specs.Trees.{run_of};
 
 use crate::fault::{OneFault, RunFault};
 use crate::nodes::Nodes;
@@ -27,8 +27,9 @@ pub(crate) fn all(
     ops: &[OneOp],
 ) -> Result<Vec<OneAnswer>, RunFault>
     requires { length ops.now ≤ 65535 }
-    ensures ok { IfOk result (λ answers. all nodes.old.0 session 0 ops.now ≡ Ok (answers.items, nodes.new.0)) }
-    ensures err { IfErr result (IsRunFault (all nodes.old.0 session 0 ops.now)) }
+    ensures ok { IfOk result (λ answers. run_of nodes.old.0 session 0 ops.now
+        ≡ Ok (answers.items, nodes.new.0)) }
+    ensures err { IfErr result (IsRunFault (run_of nodes.old.0 session 0 ops.now)) }
     ensures back { nodes.new.1 ≡ nodes.old.1 }
 {
     let mut answers = Vec::new(alloc);

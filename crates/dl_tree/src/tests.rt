@@ -91,22 +91,30 @@ fn one_of(alloc: Global, text: &str) -> Result<OneOp, NoMemory> {
     op_of(alloc, verb, path, word, bytes)
 }
 
-/// One operation, or several with `; ` between them after the word `all`.
-fn request_of(alloc: Global, text: &str) -> Result<MetaOp, NoMemory>
-    ensures { IfOk result HasPlaces }
-{
-    let Some(text) = text.strip_prefix("all ") else {
-        return Ok(MetaOp::One(one_of(alloc, text)?));
-    };
+/// Operations with `; ` between them.
+fn ops_of(alloc: Global, text: &str) -> Result<Vec<OneOp>, NoMemory> {
     let mut ops = Vec::new(alloc);
     for text in text.split("; ") {
         ops.push(one_of(alloc, text)?)?;
     }
-    if ops.len() > 65535 {
-        return Err(NoMemory);
+    Ok(ops)
+}
+
+/// One operation, or several with `; ` between them after the word `all`.
+fn request_of(alloc: Global, text: &str) -> Result<MetaOp, NoMemory>
+    ensures { IfOk result HasPlaces }
+{
+    match text.strip_prefix("all ") {
+        Some(text) => {
+            let ops = ops_of(alloc, text)?;
+            if ops.len() > 65535 {
+                return Err(NoMemory);
+            }
+            let ops = OneOps::from_vec(ops);
+            Ok(MetaOp::Multi { ops })
+        }
+        None => Ok(MetaOp::One(one_of(alloc, text)?)),
     }
-    let ops = OneOps::from_vec(ops);
-    Ok(MetaOp::Multi { ops })
 }
 
 /// Bytes as text.
@@ -231,7 +239,7 @@ fn run(tree: &mut Tree, alloc: Global, line: &str) -> Result<String, NoMemory> {
 /// Lines, and after ` => ` what the table of operations gives for each.
 fn rows() -> &'static str {
     "
-# the root, and one node
+# the root and one node
 5 create / lasting x => failed 0 no node
 5 delete / - => failed 0 not empty 0
 5 children / => names

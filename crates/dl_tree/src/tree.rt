@@ -1,6 +1,6 @@
 ghost use Rattle.std.specs.Prelude.{◌≡◌, ◌≤◌, IfOk, OnOk, OnErr, MatchOption, MatchResult, Some, None, length, is_some, true};
 ghost use Rattle.std.specs.FinMap.{get};
-ghost use Rattle.dl_tree.specs.Trees.{root_alone, without_session, applied, after_one, after_all, one, all, HasPlaces, child_names};
+ghost use Rattle.dl_tree.specs.Trees.{root_alone, without_session, after_request, after_one, after_all, outcome_of, run_of, HasPlaces, child_names, node};
 
 use crate::fault::{OneFault, RunFault};
 use crate::node::NodeView;
@@ -49,10 +49,11 @@ impl Tree {
 
     /// Runs a request of a session. A single operation and several answer as the table of operations says; where one
     /// fails, the answer names its place and the reason, and the tree is as before, as it is where memory runs out.
-    #[tactic(auto, unfolding(crate::specs::Trees::applied))]
+    #[tactic(auto, unfolding(crate::specs::Trees::after_request))]
     pub fn apply(&mut self, session: u64, op: &MetaOp) -> Result<MetaAnswer, NoMemory>
         requires { HasPlaces op.now }
-        ensures ok { IfOk result (λ answer. applied self.old session op.now ≡ (answer, self.new)) }
+        ensures ok { IfOk result (λ answer. after_request self.old session op.now
+            ≡ (answer, self.new)) }
         ensures err { OnErr result (self.new ≡ self.old) }
     {
         match op {
@@ -63,7 +64,8 @@ impl Tree {
 
     /// Runs one operation.
     fn apply_one(&mut self, session: u64, op: &OneOp) -> Result<MetaAnswer, NoMemory>
-        ensures ok { IfOk result (λ answer. after_one self.old (one self.old session op.now) ≡ (answer, self.new)) }
+        ensures ok { IfOk result (λ answer. after_one self.old (outcome_of self.old session op.now)
+            ≡ (answer, self.new)) }
         ensures err { OnErr result (self.new ≡ self.old) }
     {
         match one(&mut self.nodes, self.alloc, session, op) {
@@ -85,7 +87,8 @@ impl Tree {
     /// Runs operations in order, all or none.
     fn apply_all(&mut self, session: u64, ops: &[OneOp]) -> Result<MetaAnswer, NoMemory>
         requires { length ops.now ≤ 65535 }
-        ensures ok { IfOk result (λ answer. after_all self.old (all self.old session 0 ops.now) ≡ (answer, self.new)) }
+        ensures ok { IfOk result (λ answer. after_all self.old (run_of self.old session 0 ops.now)
+            ≡ (answer, self.new)) }
         ensures err { OnErr result (self.new ≡ self.old) }
     {
         match all(&mut self.nodes, self.alloc, session, ops) {
@@ -113,7 +116,8 @@ impl Tree {
 
     /// The node at a path, where there is one. It takes no memory.
     pub fn look(&self, path: &Path) -> Option<NodeView<'_>>
-        ensures { MatchOption result (get self.now path.now ≡ None) (λ v. get self.now path.now ≡ Some (record { bytes = v.bytes.now; version = v.version; owner = v.owner; counter = v.counter })) }
+        ensures { MatchOption result (get self.now path.now ≡ None) (λ v. get self.now path.now
+            ≡ Some (node v.bytes.now v.version v.owner v.counter)) }
     {
         match self.nodes.get(path) {
             Some(node) => Some(NodeView {
@@ -128,7 +132,9 @@ impl Tree {
 
     /// The names of a node's children in byte order, where the node is there.
     pub fn children(&self, alloc: Global, path: &Path) -> Result<Option<Vec<Path>>, NoMemory>
-        ensures { IfOk result (λ o. MatchOption o (get self.now path.now ≡ None) (λ names. (is_some (get self.now path.now) ≡ true) × (names.items ≡ child_names self.now path.now))) }
+        ensures { IfOk result (λ o. MatchOption o (get self.now path.now ≡ None) (λ names.
+            (is_some (get self.now path.now) ≡ true)
+            × (names.items ≡ child_names self.now path.now))) }
     {
         match self.nodes.get(path) {
             Some(_node) => {
