@@ -2,8 +2,8 @@
 use Rattle.std.proofs.Common.{◌≡◌, [], ◌∷◌, refl, lit<}
 use Rattle.std.specs.Fmt.{decimal}
 use Rattle.std.proofs.lemmas.Fmt.{decimal_digit}
-use Rattle.dl_schedule.specs.declared.verb.Opening.TheVariants as opening
-use Rattle.dl_schedule.specs.Lines.{opening_text}
+use Rattle.dl_schedule.specs.declared.opening.Opening.TheVariants as opening
+use Rattle.dl_schedule.specs.EarlyLines.{opening_text}
 
 zero_text : decimal 0 ≡ 48 ∷ []
 zero_text = decimal_digit 0 (lit< tt)

@@ -1,13 +1,16 @@
-ghost use Rattle.std.specs.Prelude.{◌≡◌, ◌<◌, ◌≤◌, List, ℕ, [], ◌∷◌, IfOk, IfErr, codes};
-ghost use Rattle.dl_text.specs.Readers.{Gives, ended};
+ghost use Rattle.std.specs.Prelude.{◌≡◌, ◌<◌, ◌≤◌, IfOk, IfErr, codes};
+ghost use Rattle.dl_types.specs.declared.client.TheConstants.{MAX_CLIENT};
+ghost use Rattle.dl_text.specs.Readers.{Gives};
 ghost use Rattle.dl_schedule.specs.declared.step.Step.{Step};
-ghost use Rattle.dl_schedule.specs.Lines.{print_step, opening_step, opening_at, IsEarly};
+ghost use Rattle.dl_schedule.specs.StepLines.{step_line};
+ghost use Rattle.dl_schedule.specs.EarlyLines.{opening_step, opening_at, IsEarly};
+ghost use Rattle.dl_schedule.specs.EarlyReading.{only_client_at, free_append_at, free_flush_at, free_rest_at, free_at, fixed_at, said_at, early_at};
 ghost use Rattle.dl_schedule.specs.Faults.{IsBadAt, ReadsAs, Parses, parsed_early};
-ghost use Rattle.dl_schedule.specs.Reading.{client_at, append_at, flush_at, rest_at, free_at, fixed_at, said_at, early_at};
 
 use crate::bookie_count::BookieCount;
+use crate::opening::Opening;
 use crate::step::Step;
-use crate::verb::{Opening, Verb};
+use crate::words::FirstWord;
 use dl_text::hex::hex_of;
 use dl_text::number::number_of;
 use dl_text::stop::Stop;
@@ -20,18 +23,21 @@ use dl_types::payload::Payload;
 use dl_types::txid::{MAX_TXID, TxId};
 use std::alloc::Global;
 
+/// The first words of free lines.
+const FREE: [FirstWord; 3] = [FirstWord::Append, FirstWord::Flush, FirstWord::Settle];
+
 /// The number of a client: 0, the one that early schedules have.
 fn client_of(end: u8, bytes: &[u8]) -> Result<(u16, &[u8]), Stop>
     requires { end < 48 }
-    ensures exact { Gives (λ x. (x.0, x.1.now)) result (client_at end bytes.now) }
-    ensures within { IfOk result (λ x. x.0 ≤ 63) }
+    ensures exact { Gives (λ x. (x.0, x.1.now)) result (only_client_at end bytes.now) }
+    ensures within { IfOk result (λ x. x.0 ≤ MAX_CLIENT) }
 {
     let (client, rest) = number_of(0, 0, end, bytes)?;
     Ok((client as u16, rest))
 }
 
 fn append_of(alloc: Global, bytes: &[u8]) -> Result<(Step, &[u8]), Stop>
-    ensures { Gives (λ x. (x.0, x.1.now)) result (append_at bytes.now) }
+    ensures { Gives (λ x. (x.0, x.1.now)) result (free_append_at bytes.now) }
 {
     let (client, rest) = client_of(b' ', bytes)?;
     let (txid, rest) = number_of(0, MAX_TXID, b' ', rest)?;
@@ -50,7 +56,7 @@ fn append_of(alloc: Global, bytes: &[u8]) -> Result<(Step, &[u8]), Stop>
 }
 
 fn flush_of(bytes: &[u8]) -> Result<(Step, &[u8]), Stop>
-    ensures { Gives (λ x. (x.0, x.1.now)) result (flush_at bytes.now) }
+    ensures { Gives (λ x. (x.0, x.1.now)) result (free_flush_at bytes.now) }
 {
     let (client, rest) = client_of(b'\n', bytes)?;
     let client = ClientId::new(client);
@@ -58,21 +64,21 @@ fn flush_of(bytes: &[u8]) -> Result<(Step, &[u8]), Stop>
 }
 
 /// A free line behind its first word.
-fn rest_of(alloc: Global, verb: Verb, bytes: &[u8]) -> Result<(Step, &[u8]), Stop>
-    ensures { Gives (λ x. (x.0, x.1.now)) result (rest_at verb bytes.now) }
+fn rest_of(alloc: Global, word: FirstWord, bytes: &[u8]) -> Result<(Step, &[u8]), Stop>
+    ensures { Gives (λ x. (x.0, x.1.now)) result (free_rest_at word bytes.now) }
 {
-    match verb {
-        Verb::Append => append_of(alloc, bytes),
-        Verb::Flush => flush_of(bytes),
-        Verb::Settle => Ok((Step::Settle, bytes)),
+    match word {
+        FirstWord::Append => append_of(alloc, bytes),
+        FirstWord::Flush => flush_of(bytes),
+        _ => Ok((Step::Settle, bytes)),
     }
 }
 
 fn free_of(alloc: Global, bytes: &[u8]) -> Result<(Step, &[u8]), Stop>
     ensures { Gives (λ x. (x.0, x.1.now)) result (free_at bytes.now) }
 {
-    let (verb, rest) = word_at(&Verb::ALL, bytes)?;
-    rest_of(alloc, verb, rest)
+    let (word, rest) = word_at(&FREE, bytes)?;
+    rest_of(alloc, word, rest)
 }
 
 /// The name of the stream of early schedules, `s`. It is a name, so that only want of memory refuses it.
@@ -158,11 +164,11 @@ fn early_of(alloc: Global, number: u32, line: &[u8]) -> Result<Step, Stop>
 /// line goes on, and `NoMemory` says nothing of the line.
 pub fn parse_early(alloc: Global, number: u32, line: &[u8]) -> Result<Step, LineFault>
     // What is read is a step that this line may say, and spelt so.
-    ensures found { IfOk result (λ s. IsEarly number s × (line.now ≡ print_step s)) }
+    ensures found { IfOk result (λ s. IsEarly number s × (line.now ≡ step_line s)) }
     // What is spelt so is read as that step, unless memory runs out.
-    ensures only { (s : Step) → IsEarly number s → line.now ≡ print_step s → ReadsAs s result }
+    ensures only { (s : Step) → IsEarly number s → line.now ≡ step_line s → ReadsAs s result }
     // Up to the column some line goes on as this one does, and none goes on further.
-    ensures column { IfErr result (IsBadAt number line.now) }
+    ensures column { IfErr result (IsBadAt (IsEarly number) line.now) }
     ensures exact { Parses result (parsed_early number line.now) }
 {
     match early_of(alloc, number, line) {

@@ -2,9 +2,18 @@
 #![tactic(auto)]
 
 pub mod bookie_count;
+pub mod device_step;
 pub mod early;
+mod field;
+mod form;
 pub mod laws;
+pub mod message_number;
+pub mod node;
+mod opening;
+pub mod parse;
+pub mod print;
+pub mod row_count;
 pub mod step;
 #[cfg(test)]
 mod tests;
-mod verb;
+mod words;

@@ -1,13 +1,14 @@
 -- Hex digits are read exactly.
-use Rattle.std.proofs.Common.{◌≡◌, ℕ, ◌+◌, ◌*◌, ◌/◌, ◌%◌, ◌≤◌, ◌<◌, Bool, true, false, cond, eqb, List, [], ◌∷◌, ◌++◌, length, take, drop, replicate, ◌-◌, Result, Ok, Err, ◌⊎◌, inl, inr, refl, sym, ap, subst, ◌∙◌, append_assoc, arith, lit<}
+use Rattle.std.proofs.Common.{◌≡◌, ◌≢◌, ℕ, ◌+◌, ◌*◌, ◌/◌, ◌%◌, ◌≤◌, ◌<◌, Bool, true, false, cond, eqb, List, [], ◌∷◌, ◌++◌, length, take, drop, replicate, ◌-◌, Result, Ok, Err, ◌⊎◌, inl, inr, refl, sym, ap, subst, ◌∙◌, append_assoc, arith, lit<}
 use Rattle.std.proofs.lemmas.Bool.Decides.{nat_tests}
 use Rattle.std.proofs.lemmas.Bool.{eqb-true, eq-eqb, ne_eqb, cases_eq, and_parts}
 use Rattle.std.specs.List.{list_all}
 use Rattle.std.proofs.lemmas.List.{append-nil, take-append-drop, take_all, drop_all, drop-replicate, length-replicate, length-append, length-take}
 use Rattle.std.proofs.Math.Seq.{take-append_seam, drop-append_seam}
 use Rattle.dl_text.specs.Readers.{shared, ◌>>=◌, Exact}
+use Rattle.dl_text.specs.Fields.{bytes_field}
 use Rattle.dl_text.specs.Hex.{is_hex, hex_value, hex_char, pairs, hex, AllBytes, pairs_at, end_at, hex_at, bytes_of, begins_digit, IsDigitCount}
-use Rattle.dl_text.proofs.ReaderLemmas.{ok_is, bind_ok, bind_err, shared-cons}
+use Rattle.dl_text.proofs.ReaderLemmas.{ok_is, bind_ok, bind_err, shared-cons, onto}
 use Rattle.dl_text.proofs.NumberLemmas.{StopsEarly, far_from_stop}
 
 data HexCase (end c : ℕ) : Type 0 where
@@ -325,11 +326,47 @@ hex_exact end low = record {
   far = λ bytes left e. far_from_stop AllBytes (hex end) (hex_at end) (λ bs rest all. hex_again end bs rest low all) bytes left (hex_early end bytes left e);
 }
 
--- digits that were counted
+-- no bytes
 
--- a reading of bytes with these in front
-abbrev onto : List ℕ → Result (List ℕ × List ℕ) ℕ → Result (List ℕ × List ℕ) ℕ
-onto front read = read >>= λ x. Ok (front ++ x.0, x.1)
+abbrev pub IsNothing : List ℕ → Type 0
+IsNothing bytes = bytes ≡ []
+
+nothing_again : (end : ℕ) (bs rest : List ℕ) → IsNothing bs → end_at end (bytes_field end bs ++ rest) ≡ Ok (bs, rest)
+nothing_again end bs rest none = let P : List ℕ → Type 0 = λ t. end_at end (bytes_field end t ++ rest) ≡ Ok (t, rest) in subst P (sym none) (end_again end rest)
+
+-- No bytes are read exactly, with the byte that ends them.
+pub end_exact : (end : ℕ) → Exact IsNothing (bytes_field end) (end_at end)
+end_exact end = record {
+  found = λ bytes bs rest e. let f = end_found end bytes bs rest e in (sym f.0, f.1 ∙ ap (λ (t : List ℕ). bytes_field end t ++ rest) f.0);
+  again = nothing_again end;
+  near = λ bytes left e. ([], refl, end_near end bytes left e);
+  far = λ bytes left e. far_from_stop IsNothing (bytes_field end) (end_at end) (nothing_again end) bytes left (end_early end bytes left e);
+}
+
+-- bytes with two ends
+
+no_hex : (end : ℕ) → end < 45 → is_hex end ≡ false
+no_hex end low = grind (arith, nat_tests, low)
+
+pairs_apart : (sep end : ℕ) (bs rest : List ℕ) → end < 45 → end ≢ sep → AllBytes bs → (left : ℕ) × (pairs_at sep (pairs bs ++ end ∷ rest) ≡ Err left)
+pairs_apart sep end [] rest low ne all = (1 + length rest, no_pair sep end rest (ne_eqb end sep ne) (no_hex end low))
+pairs_apart sep end (b ∷ bs) rest low ne all =
+    let h : b / 16 < 16 = omega (arith, all.0) in
+    let l : b % 16 < 16 = omega arith in
+    let w = pairs_apart sep end bs rest low ne all.1 in
+    (w.0, after_pair sep (hex_char (b / 16)) (hex_char (b % 16)) (pairs bs ++ end ∷ rest) (hex_back (b / 16) h).0 (hex_back (b % 16) l).0 ∙ rw w.1 refl)
+
+-- Bytes that one byte ends are none that another one ends.
+pub hex_apart : (sep end : ℕ) (bs rest : List ℕ) → end < 45 → end ≢ sep → AllBytes bs → (left : ℕ) × (hex_at sep (hex end bs ++ rest) ≡ Err left)
+hex_apart sep end [] rest low ne all = (1 + length rest, rw (ne_eqb end sep ne) refl)
+hex_apart sep end (b ∷ bs) rest low ne all =
+    let h : b / 16 < 16 = omega (arith, all.0) in
+    let r = hex_back (b / 16) h in
+    let dash : eqb (hex_char (b / 16)) 45 ≡ false = let a = r.2 in grind (arith, nat_tests, a) in
+    let w = pairs_apart sep end (b ∷ bs) rest low ne all in
+    (w.0, ap (hex_at sep) (append_assoc (pairs (b ∷ bs)) (end ∷ []) rest) ∙ hex_goes sep (hex_char (b / 16)) (hex_char (b % 16) ∷ pairs bs ++ end ∷ rest) dash r.0 ∙ w.1)
+
+-- digits that were counted
 
 -- after whole pairs of digits the text goes on
 digits_even : (end : ℕ) (digits rest : List ℕ) → length digits % 2 ≡ 0 → list_all is_hex digits ≡ true → pairs_at end (digits ++ rest) ≡ onto (bytes_of digits) (pairs_at end rest)

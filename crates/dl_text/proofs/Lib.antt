@@ -4,3 +4,7 @@ pub mod HexLemmas
 pub mod WordLemmas
 pub mod LineLemmas
 pub mod TextLineLemmas
+pub mod ChoiceLemmas
+pub mod NameLemmas
+pub mod PlaceLemmas
+pub mod ListLemmas

@@ -3,6 +3,7 @@ use Rattle.std.proofs.Common.{◌≡◌, ℕ, suc, ◌+◌, ◌≤◌, ◌<◌, 
 use Rattle.std.proofs.lemmas.Bool.Decides.{nat_tests}
 use Rattle.std.proofs.lemmas.Bool.{eq-eqb, cases_eq, cases_lt}
 use Rattle.std.proofs.lemmas.List.{append-nil}
+pub use Rattle.dl_reading.proofs.ReadingLemmas.{bind_ok, bind_err, ok_is}
 use Rattle.dl_text.specs.Readers.{shared, ◌>>=◌, then_at, map_at, Exact}
 
 -- what two texts share
@@ -44,19 +45,6 @@ begins (x ∷ s) rest (y ∷ t) h = elim (cases_eq x y) [
       let w = begins s rest t h2 in let same : y ∷ t ≡ x ∷ (s ++ w.0) = cc in (w.0, same)
   | inr ne ↦ absurd (grind (arith, nat_tests, ne, h))
 ]
-
--- steps that may stop
-
-pub bind_ok : {A B F : Type 0} (r : Result A F) (f : A → Result B F) (y : B) → (r >>= f) ≡ Ok y → (x : A) × (r ≡ Ok x) × (f x ≡ Ok y)
-bind_ok (Ok x) f y e = (x, refl, e)
-bind_ok (Err d) f y e = absurd cc
-
-pub bind_err : {A B F : Type 0} (r : Result A F) (f : A → Result B F) (fault : F) → (r >>= f) ≡ Err fault → (r ≡ Err fault) ⊎ ((x : A) × (r ≡ Ok x) × (f x ≡ Err fault))
-bind_err (Ok x) f fault e = inr (x, refl, e)
-bind_err (Err d) f fault e = inl cc
-
-pub ok_is : {A B : Type 0} (x y : A) → (let r : Result A B = Ok x in r) ≡ Ok y → x ≡ y
-ok_is x y e = cc
 
 -- one field and then another
 
@@ -191,3 +179,15 @@ made_exact {A} {S} V p r make W q exact to from = record {
     | inr z ↦ absurd (let wrong : Ok (make z.0.0, z.0.1) ≡ Err left = z.2 in cc)
   ];
 }
+
+-- a reading of items with these in front
+abbrev pub onto : {A : Type 0} → List A → Result (List A × List ℕ) ℕ → Result (List A × List ℕ) ℕ
+onto front read = read >>= λ x. Ok (front ++ x.0, x.1)
+
+pub onto_none : {A : Type 0} (r : Result (List A × List ℕ) ℕ) → onto [] r ≡ r
+onto_none (Ok x) = refl
+onto_none (Err n) = refl
+
+pub onto_twice : {A : Type 0} (xs ys : List A) (r : Result (List A × List ℕ) ℕ) → onto xs (onto ys r) ≡ onto (xs ++ ys) r
+onto_twice {A} xs ys (Ok x) = ap (λ (t : List A). Ok (t, x.1)) (sym (append_assoc xs ys x.0))
+onto_twice xs ys (Err n) = refl

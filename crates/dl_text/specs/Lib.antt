@@ -9,4 +9,8 @@ pub mod Columns
 pub mod Outputs
 pub mod Laws
 pub mod Fields
+pub mod Choices
+pub mod NameFields
+pub mod PlaceFields
+pub mod ListFields
 pub mod Refusals

@@ -2,6 +2,13 @@
 use Rattle.std.specs.Prelude.{◌≢◌, ℕ, ◌+◌, ◌*◌, ◌-◌, ◌^◌, ◌≤◌, ◌<◌, not, ◌&&◌, List, [], ◌∷◌, ◌++◌, length, Result, Ok, Err, nat_le, ◌==◌, if◌then◌else◌}
 use Rattle.std.specs.Fmt.{decimal}
 
+-- the greatest numbers of 32 and of 64 bits
+abbrev pub most_u32 : ℕ
+most_u32 = 4294967295
+
+abbrev pub most_u64 : ℕ
+most_u64 = 18446744073709551615
+
 -- the one spelling of a number, and the byte that ends it
 abbrev pub number : ℕ → ℕ → List ℕ
 number end n = decimal n ++ end ∷ []

@@ -1,7 +1,7 @@
-ghost use Rattle.std.specs.Prelude.{◌≡◌, ◌<◌, ◌*◌, ◌%◌, IfOk, true, length};
+ghost use Rattle.std.specs.Prelude.{◌≡◌, ◌<◌, ◌*◌, ◌%◌, [], IfOk, true, length};
 ghost use Rattle.std.specs.List.{list_all};
 ghost use Rattle.dl_text.specs.Readers.{Gives};
-ghost use Rattle.dl_text.specs.Hex.{is_hex, hex_value, hex_char, hex, hex_at, pairs, pairs_at, bytes_of, IsDigitCount};
+ghost use Rattle.dl_text.specs.Hex.{is_hex, hex_value, hex_char, hex, hex_at, end_at, pairs, pairs_at, bytes_of, IsDigitCount};
 ghost use Rattle.dl_text.specs.Outputs.{Puts};
 
 use crate::stop::Stop;
@@ -103,6 +103,22 @@ fn pairs_of(alloc: Global, end: u8, bytes: &[u8]) -> Result<(Vec<u8>, &[u8]), St
         return Err(Stop::Left(rest.len()));
     }
     Ok((bytes_of(alloc, digits)?, after))
+}
+
+/// The text behind the byte `end` at its front.
+pub fn end_of(end: u8, bytes: &[u8]) -> Result<&[u8], Stop>
+    ensures { Gives (λ x. ([], x.now)) result (end_at end bytes.now) }
+{
+    match bytes {
+        [] => Err(Stop::Left(0)),
+        [c, rest @ ..] => {
+            if *c == end {
+                Ok(rest)
+            } else {
+                Err(Stop::Left(bytes.len()))
+            }
+        }
+    }
 }
 
 /// Bytes at the front of a text, as pairs of lower-case hex digits or `-` for none, and the text behind the byte `end`

@@ -1,6 +1,6 @@
 //! What holds of the readers of this crate, for each text: laws on their definitions, with no code.
 
-ghost use Rattle.dl_text.specs.Laws.{NumbersAreExact, HexIsExact, WordsAreExact, WholeNumbersAreRead, LinesEndAtFeeds};
+ghost use Rattle.dl_text.specs.Laws.{NumbersAreExact, HexIsExact, FieldsAreExact, WordsAreExact, WholeNumbersAreRead, LinesEndAtFeeds};
 
 use crate::word::Word;
 
@@ -14,6 +14,12 @@ pub fn numbers_are_exact()
 /// on.
 pub fn hex_is_exact()
     ensures { HexIsExact }
+{}
+
+/// Names, places and lists of payloads are spelt in one way and read as they are spelt, and a text that begins with none
+/// stops where none goes on.
+pub fn fields_are_exact()
+    ensures { FieldsAreExact }
 {}
 
 /// Each word of a closed list is read as it is spelt, and a text that begins with none stops where none goes on,

@@ -5,7 +5,10 @@ pub mod field;
 pub mod hex;
 pub mod laws;
 pub mod line;
+pub mod name;
 pub mod number;
+pub mod payloads;
+pub mod place;
 pub mod refusal_word;
 pub mod stop;
 #[cfg(test)]

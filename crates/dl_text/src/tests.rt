@@ -1,14 +1,21 @@
 ghost use Rattle.std.specs.Prelude.{◌≡◌, if◌then◌else◌, codes};
 
-use crate::hex::{hex_of, put_hex};
+use crate::field::{put_bytes, put_place};
+use crate::hex::{end_of, hex_of, put_hex};
 use crate::laws::{
-    hex_is_exact, lines_end_at_feeds, numbers_are_exact, whole_numbers_are_read, words_are_exact,
+    fields_are_exact, hex_is_exact, lines_end_at_feeds, numbers_are_exact, whole_numbers_are_read,
+    words_are_exact,
 };
 use crate::line::first_line;
+use crate::name::name_of;
 use crate::number::{number_of, put_number};
+use crate::payloads::{payloads_of, put_payloads};
+use crate::place::place_of;
 use crate::stop::Stop;
 use crate::word::{Word, word_at};
+use dl_types::dlsn::Dlsn;
 use dl_types::memory::NoMemory;
+use dl_types::payload::Payload;
 use std::test::Fail;
 
 /// A word of two.
@@ -92,6 +99,38 @@ fn what_is_put_is_read_again(rt: HostRuntime) -> Result<(), Fail> {
     let (many, rest) = hex_of(alloc, b'\n', rest)?;
     assert_eq!(rt; many.as_slice(), payload.as_slice());
     assert_eq!(rt; rest.len(), 0);
+    Ok(())
+}
+
+#[test]
+fn fields_that_are_put_are_read_again(rt: HostRuntime) -> Result<(), Fail> {
+    let alloc = rt.alloc();
+    let place = Dlsn {
+        segment: 1,
+        entry: 0,
+        slot: u32::MAX,
+    };
+    let mut payloads = Vec::new(alloc);
+    payloads.push(Payload::new(alloc, &[])?)?;
+    payloads.push(Payload::new(alloc, &[7, 0xff])?)?;
+    let mut out = Vec::new(alloc);
+    put_bytes(&mut out, b' ', b"a_1-z")?;
+    put_place(&mut out, b' ', place)?;
+    put_payloads(&mut out, &payloads)?;
+    assert_eq!(rt; out.as_slice(), b"a_1-z 1:0:4294967295 - 07ff\n".as_slice());
+    let (name, rest) = name_of(b' ', &out)?;
+    assert_eq!(rt; name, b"a_1-z".as_slice());
+    let (found, rest) = place_of(1, b' ', rest)?;
+    assert_eq!(rt; found, place);
+    let (read, rest) = payloads_of(alloc, 1, rest)?;
+    assert_eq!(rt; read.as_slice(), payloads.as_slice());
+    assert_eq!(rt; rest.len(), 0);
+    assert_eq!(rt; end_of(b' ', b"m"), Err(Stop::Left(1)));
+    match payloads_of(alloc, 0, b"- 07\n") {
+        Ok(_) => assert!(rt; false, "two payloads"),
+        Err(stop) => assert_eq!(rt; stop, Stop::Left(4)),
+    }
+    fields_are_exact();
     Ok(())
 }
 

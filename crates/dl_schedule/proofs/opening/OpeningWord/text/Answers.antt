@@ -1,7 +1,7 @@
 use Rattle.std.proofs.Common.{sym, ap, ◌∙◌}
-use Rattle.dl_schedule.specs.Lines.{opening_text}
+use Rattle.dl_schedule.specs.EarlyLines.{opening_text}
 use Rattle.dl_schedule.proofs.Openings.{setup_line, join_line, create_line, open_line}
-use Rattle.dl_schedule.proofs.verb.OpeningWord.text.Goals as goal
+use Rattle.dl_schedule.proofs.opening.OpeningWord.text.Goals as goal
 
 pub returns-in-Setup : goal.returns-in-Setup
 returns-in-Setup c = setup_line ∙ ap opening_text (sym c.in-Setup.is)
