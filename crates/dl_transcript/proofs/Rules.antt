@@ -1,37 +1,18 @@
--- Each rule of a legal transcript binds, by computation.
-use Rattle.std.proofs.Common.{refl}
-use Rattle.dl_transcript.specs.Legal.{keeps, sees, first_fault}
+-- Each rule of a legal transcript binds.
 use Rattle.dl_transcript.specs.Laws.{EachRuleBinds}
+use Rattle.dl_transcript.proofs.WritingRules.{sessions_bind, rows_bind}
+use Rattle.dl_transcript.proofs.SegmentRules.{segments_bind, ends_bind}
+use Rattle.dl_transcript.proofs.ReadingRules.{reads_bind, rows_read_bind, ends_read_bind, refusals_bind}
 
--- the first fault of each small transcript is computed
+-- all of them
 pub rules_bind : EachRuleBinds
-unfolding keeps sees first_fault
 rules_bind = record {
-  whole = refl;
-  line = refl;
-  first_session = refl;
-  next_session = refl;
-  first_call = refl;
-  next_call = refl;
-  counted = refl;
-  beyond = refl;
-  next_segment = refl;
-  second_writer = refl;
-  later_segment = refl;
-  closed_segment = refl;
-  same_place = refl;
-  lower_place = refl;
-  mark = refl;
-  at_mark = refl;
-  lower_id = refl;
-  no_record = refl;
-  no_call = refl;
-  other_stream = refl;
-  other_id = refl;
-  other_payload = refl;
-  second_row = refl;
-  no_row = refl;
-  other_row = refl;
-  other_client = refl;
-  second_ack = refl;
+  sessions = sessions_bind;
+  rows = rows_bind;
+  segments = segments_bind;
+  ends = ends_bind;
+  reads = reads_bind;
+  rows_read = rows_read_bind;
+  ends_read = ends_read_bind;
+  refusals = refusals_bind;
 }

@@ -1,4 +1,9 @@
 pub mod Verbs
 pub mod Lines
+pub mod Histories
 pub mod Legal
+pub mod Examples
+pub mod WritingLaws
+pub mod SegmentLaws
+pub mod ReadingLaws
 pub mod Laws

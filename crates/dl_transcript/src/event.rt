@@ -1,8 +1,11 @@
+use dl_types::address::Address;
 use dl_types::client::ClientId;
 use dl_types::dlsn::Dlsn;
 use dl_types::name::Name;
 use dl_types::payload::Payload;
+use dl_types::read_row::ReadRows;
 use dl_types::refusal::Refusal;
+use dl_types::session::SessionId;
 use dl_types::txid::TxId;
 
 /// What a step of the machine shows. The fields of a variant are the words of its line, in their order.
@@ -11,10 +14,29 @@ pub enum Event {
     /// The client joined with this session.
     Joined {
         client: ClientId,
-        session: u64,
+        session: SessionId,
+    },
+    /// The session ended.
+    Expired {
+        session: SessionId,
     },
     /// The client created the stream.
     Created {
+        client: ClientId,
+        stream: Name,
+    },
+    /// The client removed the stream.
+    Removed {
+        client: ClientId,
+        stream: Name,
+    },
+    /// The client closed the segment that it wrote, and left the stream's lock.
+    Released {
+        client: ClientId,
+        stream: Name,
+    },
+    /// The client found nothing to recover: the stream's last segment is not in progress.
+    Whole {
         client: ClientId,
         stream: Name,
     },
@@ -53,10 +75,77 @@ pub enum Event {
         call: u32,
         place: Dlsn,
     },
+    /// The rows of the stream below this place are readable by every read that begins later.
+    Committed {
+        stream: Name,
+        place: Dlsn,
+    },
+    /// The ledger of this segment of the stream is closed.
+    Closed {
+        stream: Name,
+        segment: u64,
+    },
+    /// The client recovered the segment of this place; the place's entry is the number of entries that it was closed with.
+    Recovered {
+        client: ClientId,
+        stream: Name,
+        place: Dlsn,
+    },
+    /// The stream's point moved to this place.
+    Point {
+        stream: Name,
+        place: Dlsn,
+    },
+    /// The client moved the stream's point to this place.
+    Truncated {
+        client: ClientId,
+        stream: Name,
+        place: Dlsn,
+    },
+    /// The client deleted so many segments of the stream, all of them below the one that its point stands in.
+    Purged {
+        client: ClientId,
+        stream: Name,
+        count: u64,
+    },
+    /// The client's reader stands at this place of the stream.
+    OpenedAt {
+        client: ClientId,
+        stream: Name,
+        place: Dlsn,
+    },
+    /// The client's reader stands at the stream's point, for rows whose ids are at least this one.
+    OpenedFrom {
+        client: ClientId,
+        stream: Name,
+        txid: TxId,
+    },
+    /// A read of the client on the stream began.
+    Reading {
+        client: ClientId,
+        stream: Name,
+    },
+    /// The client's read on the stream found no row.
+    End {
+        client: ClientId,
+        stream: Name,
+    },
+    /// The client's read on the stream found these rows.
+    Rows {
+        client: ClientId,
+        stream: Name,
+        rows: ReadRows,
+    },
     /// The client's order was refused.
     Refused {
         client: ClientId,
         refusal: Refusal,
+    },
+    /// The link from one node to another has so many messages.
+    Mail {
+        from: Address,
+        to: Address,
+        count: u32,
     },
     /// Nothing changed.
     Nothing,

@@ -2,7 +2,8 @@
 #![tactic(auto)]
 
 pub mod event;
-pub mod events;
 pub mod laws;
 pub mod print;
+#[cfg(test)]
+mod tests;
 pub mod verb;
