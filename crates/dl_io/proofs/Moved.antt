@@ -34,7 +34,9 @@ moves_front left into n e = record {
 }
 
 -- the same of a list that is a range of a slice
-pub moves_range : (old bytes all into piece : List ℕ) (at n : ℕ) → old ≡ drop at bytes → all ≡ bytes → n ≡ min (length into) (length (take (length all - at) (drop at all))) → piece ≡ take n (take (length all - at) (drop at all)) → Moves old into piece (drop (at + n) bytes) n
+pub moves_range : (old bytes all into piece : List ℕ) (at n : ℕ) → old ≡ drop at bytes → all ≡ bytes
+    → n ≡ min (length into) (length (take (length all - at) (drop at all))) → piece ≡ take n (take (length all - at) (drop at all))
+    → Moves old into piece (drop (at + n) bytes) n
 moves_range old bytes all into piece at n o a e p =
     let whole : take (length all - at) (drop at all) ≡ old = take_rest all at ∙ ap (λ (t : List ℕ). drop at t) a ∙ sym o in
     let rest : drop n old ≡ drop (at + n) bytes = ap (λ (t : List ℕ). drop n t) o ∙ drop-drop n at bytes in

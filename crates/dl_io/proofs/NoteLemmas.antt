@@ -1,12 +1,11 @@
 -- A line that was given and finished, or not, is a note.
 use Rattle.std.proofs.Common.{◌≡◌, ℕ, List, refl}
-use Rattle.std.specs.Prelude.{Option, Result, Ok, Err, OnOk}
-use Rattle.std.specs.Io.KnownBytes.{Appends}
+use Rattle.std.specs.Prelude.{Result, Ok, Err}
 use Rattle.dl_types.specs.declared.status.Status.{Status}
 use Rattle.dl_types.specs.declared.status.Status.TheVariants as status
-use Rattle.dl_io.specs.Causes.{HasCause}
-use Rattle.dl_io.specs.Sinks.{Finishes, GivesFront}
-use Rattle.dl_io.specs.Notes.{Noted, whole, broken, NoteFinished, finished, failed, note, note_line}
+use Rattle.dl_io.specs.Sinks.{WritesOut}
+use Rattle.dl_io.specs.Notes.{Noted, whole, broken, NoteFinished, finished, failed, Notes, note, note_line}
+use Rattle.dl_io.specs.Views.{SinkView}
 
 -- a status other than Ok is noted by a line
 note_is_line : (s : Status) → (s ≡ status.Ok → ⊥) → note_line s ≡ note s
@@ -28,14 +27,19 @@ note_is_line status.AlreadyInitialised bad = refl
 note_is_line (status.Lacking ledger entry) bad = refl
 
 -- the whole line was given; or a front of it, with a fault
-line_noted : {E : Type 0} (a b : Option (List ℕ)) (m n : ℕ) (text : List ℕ) (r : Result (Unit {0}) E) → OnOk r (Appends a b text) → GivesFront a b text → HasCause m n r → Noted a b m n text
-line_noted a b m n text (Ok u) h g c = whole h
-line_noted a b m n text (Err e) h g c = broken c.failed g
-
-pub status_noted : {E : Type 0} (s : Status) (a b : Option (List ℕ)) (m n : ℕ) (r : Result (Unit {0}) E) → (s ≡ status.Ok → ⊥) → OnOk r (Appends a b (note_line s)) → GivesFront a b (note_line s) → HasCause m n r → Noted a b m n (note s)
-status_noted s a b m n r bad h g c = rw (← note_is_line s bad) (line_noted a b m n (note_line s) r h g c)
+line_noted : {E : Type 0} (a b : SinkView) (text : List ℕ) (r : Result (Unit {0}) E) → WritesOut a b text r → Noted a b text
+line_noted a b text (Ok u) w = whole w.ok
+line_noted a b text (Err e) w = broken w.cause.failed w.some
 
 -- all that is held was finished; or how much is stayed, with a fault
-pub status_finished : {E : Type 0} (s : Status) (held : Option (List ℕ)) (old new : Option ℕ) (m n : ℕ) (r : Result (Unit {0}) E) → Finishes held old new r → HasCause m n r → NoteFinished held old new m n s
-status_finished s held old new m n (Ok u) f c = finished f
-status_finished s held old new m n (Err e) f c = failed c.failed f
+line_finished : {E : Type 0} (a b : SinkView) (s : Status) (r : Result (Unit {0}) E) → WritesOut a b (note_line s) r → NoteFinished a b s
+line_finished a b s (Ok u) w = finished w.finished
+line_finished a b s (Err e) w = failed w.cause.failed w.finished
+
+-- the line of a status other than Ok is its note
+pub line_notes : {E : Type 0} (a b : SinkView) (s : Status) (r : Result (Unit {0}) E) → (s ≡ status.Ok → ⊥) → WritesOut a b (note_line s) r → Notes a b s
+line_notes a b s r bad w = record {
+  noted = rw (← note_is_line s bad) (line_noted a b (note_line s) r w);
+  finished = line_finished a b s r w;
+  later = w.cause.later;
+}

@@ -1,5 +1,5 @@
 -- The line that a program notes when it ends badly.
-use Rattle.std.specs.Prelude.{◌≡◌, ℕ, List, [], ◌++◌, Option, codes}
+use Rattle.std.specs.Prelude.{◌≡◌, ◌≤◌, ℕ, List, [], ◌++◌, codes}
 use Rattle.std.specs.Io.KnownBytes.{Appends}
 use Rattle.dl_types.specs.declared.limit.LimitName.{LimitName}
 use Rattle.dl_types.specs.declared.refusal.Refusal.{Refusal}
@@ -10,6 +10,7 @@ use Rattle.dl_text.specs.Ends.{space, line_feed}
 use Rattle.dl_text.specs.Numbers.{number}
 use Rattle.dl_text.specs.Refusals.{refusal_field}
 use Rattle.dl_io.specs.Causes.{Rose}
+use Rattle.dl_io.specs.Views.{SinkView}
 use Rattle.dl_io.specs.Sinks.{KeepsAmount, FinishesAll, GivesFront}
 
 -- a text, a number, and the byte that ends it
@@ -57,13 +58,19 @@ note status.Ok = []
 note s = note_line s
 
 -- the whole text was given; or a front of it, and the count of faults rose
-pub data Noted (held_old held_new : Option (List ℕ)) (faults_old faults_new : ℕ) (text : List ℕ) : Type 0 where
-  whole : Appends held_old held_new text → Noted held_old held_new faults_old faults_new text
-  broken : Rose faults_old faults_new → GivesFront held_old held_new text → Noted held_old held_new faults_old faults_new text
+pub data Noted (old new : SinkView) (text : List ℕ) : Type 0 where
+  whole : Appends old.held new.held text → Noted old new text
+  broken : Rose old.faults new.faults → GivesFront old new text → Noted old new text
 
 -- with the note all that is held was finished; or how much is finished stayed, and the count of faults rose, or there
 -- was no note
-pub data NoteFinished (held : Option (List ℕ)) (amount_old amount_new : Option ℕ) (faults_old faults_new : ℕ) (s : Status) : Type 0 where
-  finished : FinishesAll held amount_old amount_new → NoteFinished held amount_old amount_new faults_old faults_new s
-  failed : Rose faults_old faults_new → KeepsAmount amount_old amount_new → NoteFinished held amount_old amount_new faults_old faults_new s
-  silent : s ≡ status.Ok → KeepsAmount amount_old amount_new → NoteFinished held amount_old amount_new faults_old faults_new s
+pub data NoteFinished (old new : SinkView) (s : Status) : Type 0 where
+  finished : FinishesAll old new → NoteFinished old new s
+  failed : Rose old.faults new.faults → KeepsAmount old.finished new.finished → NoteFinished old new s
+  silent : s ≡ status.Ok → KeepsAmount old.finished new.finished → NoteFinished old new s
+
+-- a status was noted
+pub record Notes (old new : SinkView) (s : Status) : Type 0 where
+  pub noted : Noted old new (note s)
+  pub finished : NoteFinished old new s
+  pub later : old.faults ≤ new.faults

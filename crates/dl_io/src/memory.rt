@@ -1,9 +1,8 @@
-ghost use Rattle.std.specs.Prelude.{◌≡◌, ◌≤◌, min, length, Some, Contains, IfOk, IsErr, ◌↔◌, MatchResult};
-ghost use Rattle.std.specs.Io.{ReadsAtMost, WritesAtMost};
-ghost use Rattle.std.specs.Io.KnownBytes.{ReadConsumes, WriteAppends, Keeps};
-ghost use Rattle.dl_io.specs.Causes.{HasCause, next_count};
-ghost use Rattle.dl_io.specs.Memory.{new_source, after_take, after_failed_take, new_sink, after_give, after_finish, after_failure};
-ghost use Rattle.dl_io.specs.Sinks.{KeepsAmount, Finishes, TakesSome};
+ghost use Rattle.std.specs.Prelude.{◌≡◌, ◌≤◌, min, length, Contains, IfOk, IsErr, ◌↔◌, MatchResult};
+ghost use Rattle.dl_io.specs.Causes.{next_count};
+ghost use Rattle.dl_io.specs.Memory.{source_view, new_source, after_take, after_failed_take, sink_view, new_sink, after_give, after_finish, after_failure};
+ghost use Rattle.dl_io.specs.Sinks.{Finishes, Gives};
+ghost use Rattle.dl_io.specs.Sources.{Takes};
 
 use crate::traits::{ReadFailed, Sink, Source, WriteFailed};
 use dl_types::memory::NoMemory;
@@ -23,11 +22,11 @@ pub struct MemSource {
 
 impl Model for MemSource {
     ghost use Rattle.std.specs.Prelude.{◌≤◌, drop, length};
-    ghost use Rattle.dl_io.specs.Memory.{SourceState};
+    ghost use Rattle.dl_io.specs.Memory.{SourceState, source_state};
 
     ghost Value = { SourceState };
 
-    ghost view = { λ s. record { left = drop s.at s.bytes.items; failing = s.failing.items; calls = s.calls; faults = s.faults } };
+    ghost view = { λ s. source_state (drop s.at s.bytes.items) s.failing.items s.calls s.faults };
 
     ghost invariant = { λ s. s.at ≤ length s.bytes.items };
 }
@@ -62,18 +61,14 @@ impl MemSource {
 }
 
 impl Source for MemSource {
-    ghost left = { λ s. Some s.left };
-
-    ghost read_faults = { λ s. s.faults };
+    ghost view = { source_view };
 
     fn take(&mut self, into: &mut [u8]) -> Result<usize, ReadFailed>
-        ensures bound { ReadsAtMost result into.new }
-        ensures bytes { ReadConsumes (Some self.old.left) (Some self.new.left) result into.new }
-        ensures cause { HasCause self.old.faults self.new.faults result }
-
+        ensures takes { Takes (source_view self.old) (source_view self.new) into.new result }
         ensures fails { IsErr result ↔ Contains self.old.failing (next_count self.old.calls) }
         ensures amount { IfOk result (λ n. n ≡ min (length into.new) (length self.old.left)) }
-        ensures state { MatchResult result (λ n. self.new ≡ after_take self.old n) (λ _. self.new ≡ after_failed_take self.old) }
+        ensures state { MatchResult result (λ n. self.new ≡ after_take self.old n)
+            (λ _. self.new ≡ after_failed_take self.old) }
     {
         self.calls = self.calls.saturating_add(1);
         if self.failing.contains(&self.calls) {
@@ -102,11 +97,11 @@ pub struct MemSink {
 
 impl Model for MemSink {
     ghost use Rattle.std.specs.Prelude.{◌≤◌, length};
-    ghost use Rattle.dl_io.specs.Memory.{SinkState};
+    ghost use Rattle.dl_io.specs.Memory.{SinkState, sink_state};
 
     ghost Value = { SinkState };
 
-    ghost view = { λ s. record { held = s.bytes.items; finished = s.finished; failing = s.failing.items; calls = s.calls; faults = s.faults } };
+    ghost view = { λ s. sink_state s.bytes.items s.finished s.failing.items s.calls s.faults };
 }
 
 impl MemSink {
@@ -146,23 +141,15 @@ impl MemSink {
 }
 
 impl Sink for MemSink {
-    ghost held = { λ s. Some s.held };
-
-    ghost finished = { λ s. Some s.finished };
-
-    ghost write_faults = { λ s. s.faults };
+    ghost view = { sink_view };
 
     fn give(&mut self, bytes: &[u8]) -> Result<usize, WriteFailed>
-        ensures bound { WritesAtMost result bytes.now }
-        ensures some { TakesSome bytes.now result }
-        ensures bytes { WriteAppends (Some self.old.held) (Some self.new.held) result bytes.now }
-        ensures kept { KeepsAmount (Some self.old.finished) (Some self.new.finished) }
-        ensures cause { HasCause self.old.faults self.new.faults result }
-
+        ensures gives { Gives (sink_view self.old) (sink_view self.new) bytes.now result }
         // A call that is not listed fails only where there is no memory to grow.
         ensures fails { Contains self.old.failing (next_count self.old.calls) → IsErr result }
         ensures amount { IfOk result (λ n. n ≡ length bytes.now) }
-        ensures state { MatchResult result (λ _. self.new ≡ after_give self.old bytes.now) (λ _. self.new ≡ after_failure self.old) }
+        ensures state { MatchResult result (λ _. self.new ≡ after_give self.old bytes.now)
+            (λ _. self.new ≡ after_failure self.old) }
     {
         self.calls = self.calls.saturating_add(1);
         if self.failing.contains(&self.calls) || self.bytes.extend_from_slice(bytes).is_err() {
@@ -173,12 +160,10 @@ impl Sink for MemSink {
     }
 
     fn finish(&mut self) -> Result<(), WriteFailed>
-        ensures held { Keeps (Some self.old.held) (Some self.new.held) }
-        ensures finished { Finishes (Some self.new.held) (Some self.old.finished) (Some self.new.finished) result }
-        ensures cause { HasCause self.old.faults self.new.faults result }
-
+        ensures finishes { Finishes (sink_view self.old) (sink_view self.new) result }
         ensures fails { IsErr result ↔ Contains self.old.failing (next_count self.old.calls) }
-        ensures state { MatchResult result (λ _. self.new ≡ after_finish self.old) (λ _. self.new ≡ after_failure self.old) }
+        ensures state { MatchResult result (λ _. self.new ≡ after_finish self.old)
+            (λ _. self.new ≡ after_failure self.old) }
     {
         self.calls = self.calls.saturating_add(1);
         if self.failing.contains(&self.calls) {

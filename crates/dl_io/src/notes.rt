@@ -1,12 +1,10 @@
-ghost use Rattle.std.specs.Prelude.{◌≡◌, ◌≤◌, ◌++◌, OnOk};
-ghost use Rattle.std.specs.Io.KnownBytes.{Appends};
+ghost use Rattle.std.specs.Prelude.{◌≡◌, ◌++◌};
 ghost use Rattle.dl_text.specs.Ends.{space, colon, line_feed};
 ghost use Rattle.dl_text.specs.Numbers.{number};
 ghost use Rattle.dl_text.specs.Fields.{bytes_field, place_field};
 ghost use Rattle.dl_text.specs.Refusals.{refusal_rest, refusal_field};
-ghost use Rattle.dl_io.specs.Causes.{HasCause};
-ghost use Rattle.dl_io.specs.Notes.{Noted, NoteFinished, note, note_line, note_text, word_number, two_numbers, limit_past, refused};
-ghost use Rattle.dl_io.specs.Sinks.{Writes, Finishes, GivesFront};
+ghost use Rattle.dl_io.specs.Notes.{Notes, note_line, note_text, word_number, two_numbers, limit_past, refused};
+ghost use Rattle.dl_io.specs.Sinks.{Writes, WritesOut};
 
 use crate::traits::{Sink, WriteFailed};
 use crate::whole::write_all;
@@ -20,8 +18,7 @@ use itoa::Buffer;
 
 /// Gives one text after another.
 fn write_both<K: Sink>(sink: &mut K, first: &[u8], second: &[u8]) -> Result<(), WriteFailed>
-    ensures { Writes (K.held sink.old) (K.held sink.new) (K.finished sink.old) (K.finished sink.new)
-        (K.write_faults sink.old) (K.write_faults sink.new) (first.now ++ second.now) result }
+    ensures { Writes (K.view sink.old) (K.view sink.new) (first.now ++ second.now) result }
 {
     write_all(sink, first)?;
     write_all(sink, second)
@@ -29,16 +26,14 @@ fn write_both<K: Sink>(sink: &mut K, first: &[u8], second: &[u8]) -> Result<(), 
 
 /// Gives bytes as they are, and the byte that ends them.
 fn write_bytes<K: Sink>(sink: &mut K, end: u8, bytes: &[u8]) -> Result<(), WriteFailed>
-    ensures { Writes (K.held sink.old) (K.held sink.new) (K.finished sink.old) (K.finished sink.new)
-        (K.write_faults sink.old) (K.write_faults sink.new) (bytes_field end bytes.now) result }
+    ensures { Writes (K.view sink.old) (K.view sink.new) (bytes_field end bytes.now) result }
 {
     write_both(sink, bytes, &[end])
 }
 
 /// Gives a number, and the byte that ends it.
 fn write_number<K: Sink>(sink: &mut K, end: u8, value: u64) -> Result<(), WriteFailed>
-    ensures { Writes (K.held sink.old) (K.held sink.new) (K.finished sink.old) (K.finished sink.new)
-        (K.write_faults sink.old) (K.write_faults sink.new) (number end value) result }
+    ensures { Writes (K.view sink.old) (K.view sink.new) (number end value) result }
 {
     let mut digits = Buffer::new();
     write_bytes(sink, end, digits.format(value).as_bytes())
@@ -51,8 +46,7 @@ fn write_word_number<K: Sink>(
     end: u8,
     value: u64,
 ) -> Result<(), WriteFailed>
-    ensures { Writes (K.held sink.old) (K.held sink.new) (K.finished sink.old) (K.finished sink.new)
-        (K.write_faults sink.old) (K.write_faults sink.new) (word_number text.now end value) result }
+    ensures { Writes (K.view sink.old) (K.view sink.new) (word_number text.now end value) result }
 {
     write_all(sink, text)?;
     write_number(sink, end, value)
@@ -66,8 +60,8 @@ fn write_two_numbers<K: Sink>(
     second: &[u8],
     other: u64,
 ) -> Result<(), WriteFailed>
-    ensures { Writes (K.held sink.old) (K.held sink.new) (K.finished sink.old) (K.finished sink.new)
-        (K.write_faults sink.old) (K.write_faults sink.new) (two_numbers first.now one second.now other) result }
+    ensures { Writes (K.view sink.old) (K.view sink.new)
+        (two_numbers first.now one second.now other) result }
 {
     write_word_number(sink, first, b' ', one)?;
     write_word_number(sink, second, b'\n', other)
@@ -75,8 +69,8 @@ fn write_two_numbers<K: Sink>(
 
 /// Gives the last two numbers of a place.
 fn write_entry_slot<K: Sink>(sink: &mut K, place: &Dlsn) -> Result<(), WriteFailed>
-    ensures { Writes (K.held sink.old) (K.held sink.new) (K.finished sink.old) (K.finished sink.new)
-        (K.write_faults sink.old) (K.write_faults sink.new) (number colon place.now.entry ++ number line_feed place.now.slot) result }
+    ensures { Writes (K.view sink.old) (K.view sink.new)
+        (number colon place.now.entry ++ number line_feed place.now.slot) result }
 {
     write_number(sink, b':', place.entry)?;
     write_number(sink, b'\n', u64::from(place.slot))
@@ -84,8 +78,7 @@ fn write_entry_slot<K: Sink>(sink: &mut K, place: &Dlsn) -> Result<(), WriteFail
 
 /// Gives a place, to the end of the line.
 fn write_place<K: Sink>(sink: &mut K, place: &Dlsn) -> Result<(), WriteFailed>
-    ensures { Writes (K.held sink.old) (K.held sink.new) (K.finished sink.old) (K.finished sink.new)
-        (K.write_faults sink.old) (K.write_faults sink.new) (place_field line_feed place.now) result }
+    ensures { Writes (K.view sink.old) (K.view sink.new) (place_field line_feed place.now) result }
 {
     write_number(sink, b':', place.segment)?;
     write_entry_slot(sink, place)
@@ -93,8 +86,8 @@ fn write_place<K: Sink>(sink: &mut K, place: &Dlsn) -> Result<(), WriteFailed>
 
 /// Gives a path and a version behind it, to the end of the line.
 fn write_moved<K: Sink>(sink: &mut K, path: &[u8], version: u64) -> Result<(), WriteFailed>
-    ensures { Writes (K.held sink.old) (K.held sink.new) (K.finished sink.old) (K.finished sink.new)
-        (K.write_faults sink.old) (K.write_faults sink.new) (bytes_field space path.now ++ number line_feed version) result }
+    ensures { Writes (K.view sink.old) (K.view sink.new)
+        (bytes_field space path.now ++ number line_feed version) result }
 {
     write_bytes(sink, b' ', path)?;
     write_number(sink, b'\n', version)
@@ -102,8 +95,8 @@ fn write_moved<K: Sink>(sink: &mut K, path: &[u8], version: u64) -> Result<(), W
 
 /// Gives two numbers, to the end of the line.
 fn write_pair<K: Sink>(sink: &mut K, one: u64, other: u64) -> Result<(), WriteFailed>
-    ensures { Writes (K.held sink.old) (K.held sink.new) (K.finished sink.old) (K.finished sink.new)
-        (K.write_faults sink.old) (K.write_faults sink.new) (number space one ++ number line_feed other) result }
+    ensures { Writes (K.view sink.old) (K.view sink.new)
+        (number space one ++ number line_feed other) result }
 {
     write_number(sink, b' ', one)?;
     write_number(sink, b'\n', other)
@@ -111,8 +104,7 @@ fn write_pair<K: Sink>(sink: &mut K, one: u64, other: u64) -> Result<(), WriteFa
 
 /// Gives what a line says of a refusal behind its word.
 fn write_rest<K: Sink>(sink: &mut K, refusal: &Refusal) -> Result<(), WriteFailed>
-    ensures { Writes (K.held sink.old) (K.held sink.new) (K.finished sink.old) (K.finished sink.new)
-        (K.write_faults sink.old) (K.write_faults sink.new) (refusal_rest refusal.now) result }
+    ensures { Writes (K.view sink.old) (K.view sink.new) (refusal_rest refusal.now) result }
 {
     match refusal {
         Refusal::Expired { session } => write_number(sink, b'\n', session.number()),
@@ -134,8 +126,7 @@ fn write_rest<K: Sink>(sink: &mut K, refusal: &Refusal) -> Result<(), WriteFaile
 
 /// Gives what a line says of a refusal, to the end of the line.
 fn write_refusal<K: Sink>(sink: &mut K, refusal: &Refusal) -> Result<(), WriteFailed>
-    ensures { Writes (K.held sink.old) (K.held sink.new) (K.finished sink.old) (K.finished sink.new)
-        (K.write_faults sink.old) (K.write_faults sink.new) (refusal_field refusal.now) result }
+    ensures { Writes (K.view sink.old) (K.view sink.new) (refusal_field refusal.now) result }
 {
     write_all(sink, RefusalWord::of(refusal).text())?;
     write_rest(sink, refusal)
@@ -143,8 +134,7 @@ fn write_refusal<K: Sink>(sink: &mut K, refusal: &Refusal) -> Result<(), WriteFa
 
 /// Gives what a note says of a refusal, to the end of the line.
 fn write_refused<K: Sink>(sink: &mut K, refusal: &Refusal) -> Result<(), WriteFailed>
-    ensures { Writes (K.held sink.old) (K.held sink.new) (K.finished sink.old) (K.finished sink.new)
-        (K.write_faults sink.old) (K.write_faults sink.new) (refused refusal.now) result }
+    ensures { Writes (K.view sink.old) (K.view sink.new) (refused refusal.now) result }
 {
     write_all(sink, b"refused: ")?;
     write_refusal(sink, refusal)
@@ -152,8 +142,7 @@ fn write_refused<K: Sink>(sink: &mut K, refusal: &Refusal) -> Result<(), WriteFa
 
 /// Gives what a note says of a limit, to the end of the line.
 fn write_limit<K: Sink>(sink: &mut K, name: LimitName, number: u64) -> Result<(), WriteFailed>
-    ensures { Writes (K.held sink.old) (K.held sink.new) (K.finished sink.old) (K.finished sink.new)
-        (K.write_faults sink.old) (K.write_faults sink.new) (limit_past name number) result }
+    ensures { Writes (K.view sink.old) (K.view sink.new) (limit_past name number) result }
 {
     write_both(sink, b"limit: ", name.text())?;
     write_word_number(sink, b" ", b'\n', number)
@@ -161,8 +150,7 @@ fn write_limit<K: Sink>(sink: &mut K, name: LimitName, number: u64) -> Result<()
 
 /// Gives what a note says of a status, to the end of the line.
 fn write_text<K: Sink>(sink: &mut K, status: &Status) -> Result<(), WriteFailed>
-    ensures { Writes (K.held sink.old) (K.held sink.new) (K.finished sink.old) (K.finished sink.new)
-        (K.write_faults sink.old) (K.write_faults sink.new) (note_text status.now) result }
+    ensures { Writes (K.view sink.old) (K.view sink.new) (note_text status.now) result }
 {
     match status {
         Status::Ok => write_all(sink, b""),
@@ -200,8 +188,7 @@ fn write_text<K: Sink>(sink: &mut K, status: &Status) -> Result<(), WriteFailed>
 
 /// Gives the whole line of a status.
 fn write_line<K: Sink>(sink: &mut K, status: &Status) -> Result<(), WriteFailed>
-    ensures { Writes (K.held sink.old) (K.held sink.new) (K.finished sink.old) (K.finished sink.new)
-        (K.write_faults sink.old) (K.write_faults sink.new) (note_line status.now) result }
+    ensures { Writes (K.view sink.old) (K.view sink.new) (note_line status.now) result }
 {
     write_all(sink, b"dlog: ")?;
     write_text(sink, status)
@@ -209,10 +196,7 @@ fn write_line<K: Sink>(sink: &mut K, status: &Status) -> Result<(), WriteFailed>
 
 /// Gives the whole line of a status and finishes it.
 fn finish_line<K: Sink>(sink: &mut K, status: &Status) -> Result<(), WriteFailed>
-    ensures ok { OnOk result (Appends (K.held sink.old) (K.held sink.new) (note_line status.now)) }
-    ensures some { GivesFront (K.held sink.old) (K.held sink.new) (note_line status.now) }
-    ensures finished { Finishes (K.held sink.new) (K.finished sink.old) (K.finished sink.new) result }
-    ensures cause { HasCause (K.write_faults sink.old) (K.write_faults sink.new) result }
+    ensures { WritesOut (K.view sink.old) (K.view sink.new) (note_line status.now) result }
 {
     write_line(sink, status)?;
     sink.finish()
@@ -222,9 +206,7 @@ fn finish_line<K: Sink>(sink: &mut K, status: &Status) -> Result<(), WriteFailed
 /// then no call is made. It stops at the first fault, which the sink counts: a front of the line was given then, and how
 /// much is finished stays. It takes no memory.
 pub fn write_note<N: Sink>(notes: &mut N, status: &Status)
-    ensures noted { Noted (N.held notes.old) (N.held notes.new) (N.write_faults notes.old) (N.write_faults notes.new) (note status.now) }
-    ensures finished { NoteFinished (N.held notes.new) (N.finished notes.old) (N.finished notes.new) (N.write_faults notes.old) (N.write_faults notes.new) status.now }
-    ensures later { N.write_faults notes.old ≤ N.write_faults notes.new }
+    ensures notes { Notes (N.view notes.old) (N.view notes.new) status.now }
     ensures silent { status.now ≡ Status.Ok → notes.new ≡ notes.old }
 {
     match status {

@@ -35,9 +35,7 @@ impl<R: Input + Clone + Drop> StdSource<R> {
 }
 
 impl<R: Input + Clone + Drop> Source for StdSource<R> {
-    ghost left = { λ _. None };
-
-    ghost read_faults = { λ faults. faults };
+    ghost view = { λ faults. record { left = None; faults = faults } };
 
     fn take(&mut self, into: &mut [u8]) -> Result<usize, ReadFailed> {
         match self.reader.read(into) {
@@ -76,11 +74,7 @@ impl<R: Print + Clone + Drop> StdSink<R> {
 }
 
 impl<R: Print + Clone + Drop> Sink for StdSink<R> {
-    ghost held = { λ _. None };
-
-    ghost finished = { λ _. None };
-
-    ghost write_faults = { λ faults. faults };
+    ghost view = { λ faults. record { held = None; finished = None; faults = faults } };
 
     fn give(&mut self, bytes: &[u8]) -> Result<usize, WriteFailed> {
         if bytes.is_empty() {
@@ -126,11 +120,7 @@ impl<R: Eprint + Clone + Drop> NoteSink<R> {
 }
 
 impl<R: Eprint + Clone + Drop> Sink for NoteSink<R> {
-    ghost held = { λ _. None };
-
-    ghost finished = { λ _. None };
-
-    ghost write_faults = { λ faults. faults };
+    ghost view = { λ faults. record { held = None; finished = None; faults = faults } };
 
     fn give(&mut self, bytes: &[u8]) -> Result<usize, WriteFailed> {
         if let Ok(text) = std::str::from_utf8(bytes) {

@@ -1,5 +1,5 @@
 -- A log and what was seen of it fit together, and so they do behind each of its acts.
-use Rattle.std.proofs.Common.{◌≡◌, ℕ, ◌+◌, ◌≤◌, Bool, true, false, cond, nat_lt, ◌==◌, List, [], ◌∷◌, ◌++◌, length, refl, sym, ap, ◌∙◌, append_assoc, append-nil}
+use Rattle.std.proofs.Common.{◌≡◌, ℕ, ◌+◌, ◌≤◌, Bool, true, false, cond, nat_lt, ◌==◌, List, [], ◌∷◌, ◌++◌, length, refl, sym, ap, ◌∙◌, subst, append_assoc, append-nil}
 use Rattle.std.specs.List.{flat_map}
 use Rattle.std.proofs.lemmas.Bool.{ltb-false}
 use Rattle.std.proofs.lemmas.List.Concat.{flat_map-append}
@@ -7,10 +7,11 @@ use Rattle.dl_types.specs.declared.row.Row.{Row}
 use Rattle.dl_types.specs.declared.refusal.Refusal.{Refusal}
 use Rattle.dl_types.specs.declared.refusal.Refusal.TheVariants.{TxidBack, TooLong, WindowFull}
 use Rattle.dl_transcript.specs.declared.event.Event.TheVariants.{Sent, Took, Refused, Nothing}
-use Rattle.dl_transcript.specs.Legal.{History, keeps, sees}
+use Rattle.dl_transcript.specs.Legal.{History, Leaves, effect_on_read, keeps, sees}
 use Rattle.dlog.specs.Machine.{Log, Effect, segment, next_row, take, send, send_and_take, append, flush, confirm, entry_events, fits, is_window_full}
 use Rattle.dl_types.specs.declared.payload.TheConstants.{MAX_PAYLOAD}
 use Rattle.dlog.proofs.Leads.{Leads, leads_one, leads_both, leads_to}
+use Rattle.dlog.proofs.Rules.{keeps_refused, sees_refused}
 use Rattle.dlog.proofs.Rows.{TookRows, took_take, took_send, took_confirm}
 use Rattle.dlog.proofs.WriterHistories.{WriterHistory, Fits, took_leads, upto, entries_lead}
 
@@ -67,25 +68,26 @@ send_and_take_leads sessions g txid payload s le h =
     leads_both (LogFits sessions (send g).0) (LogFits sessions (take (send g).0 txid payload).0) s (send g).1 (take (send g).0 txid payload).1
     (send_leads sessions g s h) (λ t k. take_leads sessions (send g).0 txid payload t le k)
 
--- a refusal leaves the log
-refused_leads : (sessions : ℕ) (g : Log) (c : ℕ) (why : Refusal) (s : History) → LogFits sessions g s → ActLeads sessions s (g, Refused c why ∷ [])
-unfolding keeps sees
-refused_leads sessions g c why s h = leads_one (LogFits sessions g) s (Refused c why) refl h
+-- a refusal that leaves reads leaves the log
+refused_leads : (sessions : ℕ) (g : Log) (c : ℕ) (why : Refusal) (s : History) → effect_on_read why ≡ Leaves → LogFits sessions g s
+    → ActLeads sessions s (g, Refused c why ∷ [])
+refused_leads sessions g c why s leaves h =
+    leads_one (LogFits sessions g) s (Refused c why) (keeps_refused s c why leaves) (subst (LogFits sessions g) (sym (sees_refused s c why leaves)) h)
 
 -- an append is refused, or takes its record
 pub append_leads : (sessions : ℕ) (g : Log) (txid : ℕ) (payload : List ℕ) (s : History) → LogFits sessions g s → ActLeads sessions s (append g txid payload)
 unfolding append
 append_leads sessions g txid payload s h =
-    go (nat_lt MAX_PAYLOAD (length payload)) (nat_lt txid g.last) (fits g payload) (is_window_full g) (ltb-false txid g.last) (TooLong (length payload)) (TxidBack g.last txid)
+    go (nat_lt MAX_PAYLOAD (length payload)) (nat_lt txid g.last) (fits g payload) (is_window_full g) (ltb-false txid g.last) (TooLong (length payload)) (TxidBack g.last txid) refl refl
   where
-    go : (a b c d : Bool) → (b ≡ false → g.last ≤ txid) → (x y : Refusal)
+    go : (a b c d : Bool) → (b ≡ false → g.last ≤ txid) → (x y : Refusal) → effect_on_read x ≡ Leaves → effect_on_read y ≡ Leaves
         → ActLeads sessions s (cond {A = Effect Log} a (g, Refused g.client x ∷ []) (cond {A = Effect Log} b (g, Refused g.client y ∷ [])
         (cond {A = Effect Log} c (take g txid payload) (cond {A = Effect Log} d (g, Refused g.client WindowFull ∷ []) (send_and_take g txid payload)))))
-    go true b c d le x y = refused_leads sessions g g.client x s h
-    go false true c d le x y = refused_leads sessions g g.client y s h
-    go false false true d le x y = take_leads sessions g txid payload s (le refl) h
-    go false false false true le x y = refused_leads sessions g g.client WindowFull s h
-    go false false false false le x y = send_and_take_leads sessions g txid payload s (le refl) h
+    go true b c d le x y p q = refused_leads sessions g g.client x s p h
+    go false true c d le x y p q = refused_leads sessions g g.client y s q h
+    go false false true d le x y p q = take_leads sessions g txid payload s (le refl) h
+    go false false false true le x y p q = refused_leads sessions g g.client WindowFull s refl h
+    go false false false false le x y p q = send_and_take_leads sessions g txid payload s (le refl) h
 
 -- a flush is refused, or sends the entry under way
 pub flush_leads : (sessions : ℕ) (g : Log) (s : History) → LogFits sessions g s → ActLeads sessions s (flush g)
@@ -94,7 +96,7 @@ flush_leads sessions g s h = go (length g.filling == 0) (is_window_full g)
   where
     go : (a b : Bool) → ActLeads sessions s (cond {A = Effect Log} a (g, Nothing ∷ []) (cond {A = Effect Log} b (g, Refused g.client WindowFull ∷ []) (send g)))
     go true b = leads_one (LogFits sessions g) s Nothing refl h
-    go false true = refused_leads sessions g g.client WindowFull s h
+    go false true = refused_leads sessions g g.client WindowFull s refl h
     go false false = send_leads sessions g s h
 
 -- the entries that were sent are confirmed

@@ -83,7 +83,6 @@ finish_within n s (Some (order.Open c stream)) pos w = record { sessions = w.ses
 -- each step counts up by one at most
 pub one_within : (n : ℕ) (s : State) (x : Step) → Within n s → Within (n + 1) (one s x).0
 unfolding one settle
-one_within n s (step.Setup bookies ensemble write_quorum ack_quorum) w = later n s w
 one_within n s (step.Join c) w = record { sessions = omega (arith, w.sessions); log = (later n s w).log }
 one_within n s (step.Create c stream) w = record { sessions = (later n s w).sessions; log = (later n s w).log }
 one_within n s (step.Open c stream) w = record { sessions = (later n s w).sessions; log = (later n s w).log }
@@ -92,3 +91,4 @@ one_within n s (step.Flush c) w = on_log_within n s s.log flush (Nothing ∷ [])
 one_within n s step.Settle w =
     let f = finish_within n s s.order (omega (arith, w.sessions)) w in
     on_log_within n (finish s s.order).0 (finish s s.order).0.log confirm [] confirm_counts (omega (arith, f.sessions)) f.log f.log
+one_within n s _ w = later n s w

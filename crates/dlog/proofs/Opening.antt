@@ -3,8 +3,8 @@ use Rattle.std.proofs.Common.{◌≡◌, ℕ, ◌+◌, ◌<◌, ◌≤◌, Bool,
 use Rattle.std.proofs.lemmas.Bool.{eqb-true, eqb-false, cases_lt}
 use Rattle.dl_schedule.specs.declared.step.Step.{Step}
 use Rattle.dl_schedule.specs.declared.step.Step.TheVariants as step
-use Rattle.dl_schedule.specs.declared.verb.Opening.TheVariants as opening
-use Rattle.dl_schedule.specs.Lines.{IsFree, IsSaidBy, IsEarly}
+use Rattle.dl_schedule.specs.declared.opening.Opening.TheVariants as opening
+use Rattle.dl_schedule.specs.EarlyLines.{IsFree, IsSaidBy, IsEarly}
 use Rattle.dl_transcript.specs.declared.event.Event.TheVariants.{Nothing}
 use Rattle.dlog.specs.declared.order.Order.{Order}
 use Rattle.dlog.specs.declared.order.Order.TheVariants as order
@@ -58,13 +58,9 @@ start_opens = record { log = λ _. refl; order = λ _. tt }
 
 -- each step that is due may come
 pub due_may : (n : ℕ) (s : State) (x : Step) → IsDue n x → Opens n s → MayStep s.log x
-due_may n s (step.Setup bookies ensemble write_quorum ack_quorum) due o = tt
-due_may n s (step.Join c) due o = tt
 due_may n s (step.Create c stream) due o = o.log (omega (arith, due))
 due_may n s (step.Open c stream) due o = o.log (omega (arith, due))
-due_may n s (step.Append c txid payload) due o = tt
-due_may n s (step.Flush c) due o = tt
-due_may n s step.Settle due o = tt
+due_may n s _ due o = tt
 
 -- what is not open by now is not open a line before
 later : (n : ℕ) (s : State) → Opens n s → Opens (n + 1) s
@@ -99,10 +95,10 @@ settle_opens n s o =
 -- and the opening goes on by it
 pub one_opens : (n : ℕ) (s : State) (x : Step) → IsDue n x → Opens n s → Opens (n + 1) (one s x).0
 unfolding one
-one_opens n s (step.Setup bookies ensemble write_quorum ack_quorum) due o = later n s o
 one_opens n s (step.Join c) due o = record { log = (later n s o).log; order = (later n s o).order }
 one_opens n s (step.Create c stream) due o = record { log = (later n s o).log; order = λ k. tt }
 one_opens n s (step.Open c stream) due o = record { log = (later n s o).log; order = λ k. absurd (omega (arith, due)) }
 one_opens n s (step.Append c txid payload) due o = opened (n + 1) (on_log (λ g. append g txid payload) (Nothing ∷ []) s s.log).0 (omega (arith, due))
 one_opens n s (step.Flush c) due o = opened (n + 1) (on_log flush (Nothing ∷ []) s s.log).0 (omega (arith, due))
 one_opens n s step.Settle due o = settle_opens n s o
+one_opens n s _ due o = later n s o

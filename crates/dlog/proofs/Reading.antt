@@ -7,7 +7,8 @@ use Rattle.dl_types.specs.declared.status.Status.{Status}
 use Rattle.dl_types.specs.declared.status.Status.TheVariants.{Usage}
 use Rattle.dl_text.specs.Columns.{ReadsWhole}
 use Rattle.dl_schedule.specs.declared.step.Step.{Step}
-use Rattle.dl_schedule.specs.Lines.{IsEarly, print_step}
+use Rattle.dl_schedule.specs.EarlyLines.{IsEarly}
+use Rattle.dl_schedule.specs.StepLines.{step_line}
 use Rattle.dl_schedule.specs.Faults.{parsed_early}
 use Rattle.dl_schedule.proofs.EarlyLemmas.{parsed_found, parsed_again, parsed_stops}
 use Rattle.dlog.specs.declared.ended.Ended.{Ended}
@@ -21,7 +22,7 @@ use Rattle.dlog.specs.Laws.{LinesAreRead, Say, SchedulesAreRead, EmptyWordsAreUn
 use Rattle.dlog.proofs.RunLemmas.{schedule_stop, schedule_goes}
 
 -- what the reader answers for a line is so
-reads_whole : (n : ℕ) (line : List ℕ) (read : Result Step ℕ) → parsed_early n line ≡ read → ReadsWhole (IsEarly n) print_step line read
+reads_whole : (n : ℕ) (line : List ℕ) (read : Result Step ℕ) → parsed_early n line ≡ read → ReadsWhole (IsEarly n) step_line line read
 reads_whole n line (Ok s) e = parsed_found n line s e
 reads_whole n line (Err column) e = parsed_stops n line column e
 

@@ -3,7 +3,10 @@ use Rattle.std.proofs.Common.{◌≡◌, ℕ, List, [], ◌++◌, Option, Some, 
 use Rattle.std.specs.Prelude.{unwrap_or, MatchOption}
 use Rattle.std.specs.Io.KnownBytes.{Consumes, Appends, IsAtEnd, Keeps}
 use Rattle.std.proofs.lemmas.List.{append-nil}
+use Rattle.dl_io.specs.Causes.{Rose}
+use Rattle.dl_io.specs.Sources.{HasFault}
 use Rattle.dl_io.specs.Sinks.{FinishesAll, GivesFront}
+use Rattle.dl_io.specs.Views.{SourceView, SinkView}
 use Rattle.dl_io.proofs.Pieces.{consumes_nothing, consumes_more, consumes_kept, appends_nothing}
 use Rattle.dl_types.specs.declared.status.Status.{Status}
 use Rattle.dl_types.specs.declared.status.Status.TheVariants as status
@@ -17,49 +20,49 @@ use Rattle.dlog.proofs.Legality.{every_run}
 -- reading
 
 -- nothing was read
-pub reads_nothing : (a : Option (List ℕ)) (p : RunState) → ReadsOn a a p p
-reads_nothing a p = record { taken = []; consumed = consumes_nothing a; same = λ more. refl }
+pub reads_nothing : (a : SourceView) (p : RunState) → ReadsOn a a p p
+reads_nothing a p = record { taken = []; consumed = consumes_nothing a.left; same = λ more. refl }
 
 -- a further piece was read
-pub reads_more : (a b c : Option (List ℕ)) (old mid new : RunState) (piece : List ℕ) → ReadsOn a b old mid → Consumes b c piece → Feeds mid new piece None
+pub reads_more : (a b c : SourceView) (old mid new : RunState) (piece : List ℕ) → ReadsOn a b old mid → Consumes b.left c.left piece → Feeds mid new piece None
     → ReadsOn a c old new
 reads_more a b c old mid new piece t k f = record {
   taken = t.taken ++ piece;
-  consumed = consumes_more a b c t.taken piece t.consumed k;
+  consumed = consumes_more a.left b.left c.left t.taken piece t.consumed k;
   same = λ more. ap (ends_as old) (append_assoc t.taken piece more) ∙ t.same (piece ++ more) ∙ f more;
 }
 
 -- a piece came to the stop
-pub reads_to_stop : (a b c : Option (List ℕ)) (old mid new : RunState) (piece : List ℕ) (ended : Ended) → ReadsOn a b old mid → Consumes b c piece
+pub reads_to_stop : (a b c : SourceView) (old mid new : RunState) (piece : List ℕ) (ended : Ended) → ReadsOn a b old mid → Consumes b.left c.left piece
     → Feeds mid new piece (Some ended) → ReadsToEnd a c old new ended
 reads_to_stop a b c old mid new piece ended t k f = record {
   taken = t.taken ++ piece;
-  consumed = consumes_more a b c t.taken piece t.consumed k;
+  consumed = consumes_more a.left b.left c.left t.taken piece t.consumed k;
   decides = Decides.whatever (λ more. ap (ends_as old) (append_assoc t.taken piece more) ∙ t.same (piece ++ more) ∙ f.1 more);
   all = λ e. absurd (subst IsStop e f.0);
 }
 
 -- the input came to its end
-pub reads_to_end : (a b c : Option (List ℕ)) (old mid new : RunState) (ended : Ended) → ReadsOn a b old mid → Consumes b c [] → IsAtEnd c
+pub reads_to_end : (a b c : SourceView) (old mid new : RunState) (ended : Ended) → ReadsOn a b old mid → Consumes b.left c.left [] → IsAtEnd c.left
     → ends_as mid [] ≡ outcome_at new ended → ReadsToEnd a c old new ended
 reads_to_end a b c old mid new ended t k done e = record {
   taken = t.taken ++ [];
-  consumed = consumes_more a b c t.taken [] t.consumed k;
+  consumed = consumes_more a.left b.left c.left t.taken [] t.consumed k;
   decides = Decides.at_end done (t.same [] ∙ e);
   all = λ _. done;
 }
 
 -- some bytes were taken, a further piece too
-pub front_more : (a b c : Option (List ℕ)) (old mid : RunState) (piece : List ℕ) → ReadsOn a b old mid → Consumes b c piece → ReadsFront a c
-front_more a b c old mid piece t k = record { taken = t.taken ++ piece; consumed = consumes_more a b c t.taken piece t.consumed k }
+pub front_more : (a b c : SourceView) (old mid : RunState) (piece : List ℕ) → ReadsOn a b old mid → Consumes b.left c.left piece → ReadsFront a c
+front_more a b c old mid piece t k = record { taken = t.taken ++ piece; consumed = consumes_more a.left b.left c.left t.taken piece t.consumed k }
 
 -- some bytes were taken, and then none
-pub front_kept : (a b c : Option (List ℕ)) (old mid : RunState) → ReadsOn a b old mid → Keeps b c → ReadsFront a c
-front_kept a b c old mid t k = record { taken = t.taken; consumed = consumes_kept a b c t.taken t.consumed k }
+pub front_kept : (a b c : SourceView) (old mid : RunState) → ReadsOn a b old mid → Keeps b.left c.left → ReadsFront a c
+front_kept a b c old mid t k = record { taken = t.taken; consumed = consumes_kept a.left b.left c.left t.taken t.consumed k }
 
 -- no bytes were taken
-pub front_nothing : (a : Option (List ℕ)) → ReadsFront a a
-front_nothing a = record { taken = []; consumed = consumes_nothing a }
+pub front_nothing : (a : SourceView) → ReadsFront a a
+front_nothing a = record { taken = []; consumed = consumes_nothing a.left }
 
 -- what is left, and none where it isn't told
 abbrev rest_of : Option (List ℕ) → List ℕ
@@ -94,9 +97,9 @@ runs_to p q ended input new e =
     record { text = ap (λ (o : Outcome). o.text) whole; end = ap (λ (o : Outcome). o.ended) whole }
 
 -- a run that has read to its end decides it
-run_decides : (lo ln : Option (List ℕ)) (p q : RunState) (ended : Ended) → p ≡ new_run → (t : ReadsToEnd lo ln p q ended)
-    → Decides ln t.taken (RunsTo q.text ended)
-run_decides lo ln p q ended new t = decides_to ln t.taken (λ text. ends_as p text ≡ outcome_at q ended) (RunsTo q.text ended) (λ text e. runs_to p q ended text new e) t.decides
+run_decides : (a b : SourceView) (p q : RunState) (ended : Ended) → p ≡ new_run → (t : ReadsToEnd a b p q ended) → Decides b.left t.taken (RunsTo q.text ended)
+run_decides a b p q ended new t =
+    decides_to b.left t.taken (λ text. ends_as p text ≡ outcome_at q ended) (RunsTo q.text ended) (λ text e. runs_to p q ended text new e) t.decides
 
 -- what the run over a text prints is the printing of its transcript, which is legal
 prints_legal : (given : List ℕ) (ended : Ended) (input : List ℕ) → RunsTo given ended input → PrintsLegal given input
@@ -112,45 +115,62 @@ came_to (BadLine line column) A P p = p
 came_to (Limit name number) A P p = p
 
 -- a run that came to its end, and all that it printed was given
-pub replays_end : (lo ln ho hn : Option (List ℕ)) (fo fn : Option ℕ) (p q : RunState) (ended : Ended) → p ≡ new_run → ReadsToEnd lo ln p q ended
-    → Appends ho hn q.text → FinishesAll hn fo fn → Replays lo ln ho hn fo fn (status_of ended)
-replays_end lo ln ho hn fo fn p q ended new t k f =
-    let d : Decides ln t.taken (RunsTo q.text ended) = run_decides lo ln p q ended new t in
-    let r : RunsTo q.text ended (t.taken ++ rest_of ln) = decided ln t.taken (RunsTo q.text ended) d in
+pub replays_end : (a b : SourceView) (m n : SinkView) (p q : RunState) (ended : Ended) → p ≡ new_run → ReadsToEnd a b p q ended
+    → Appends m.held n.held q.text → FinishesAll m n → Replays a b m n (status_of ended)
+replays_end a b m n p q ended new t k f =
+    let rest : List ℕ = rest_of b.left in
+    let d : Decides b.left t.taken (RunsTo q.text ended) = run_decides a b p q ended new t in
+    let r : RunsTo q.text ended (t.taken ++ rest) = decided b.left t.taken (RunsTo q.text ended) d in
     record {
       taken = t.taken;
-      rest = rest_of ln;
+      rest = rest;
       given = q.text;
       consumed = t.consumed;
-      left = rest_is ln;
+      left = rest_is b.left;
       appended = k;
-      answers = came_to ended (CutShort q.text (t.taken ++ rest_of ln) (status_of ended)) (CameTo ln t.taken (rest_of ln) q.text hn fo fn)
-          (record { runs = r; legal = prints_legal q.text ended (t.taken ++ rest_of ln) r; decides = d; all = t.all; finished = f });
+      answers = came_to ended (CutShort a b m n q.text (t.taken ++ rest) (status_of ended)) (CameTo b.left m n t.taken rest q.text)
+          (record { runs = r; legal = prints_legal q.text ended (t.taken ++ rest) r; decides = d; all = t.all; finished = f });
     }
 
 -- a run that came to its end, and some front of what it printed was given
-pub replays_write_fault : (lo ln ho hn : Option (List ℕ)) (fo fn : Option ℕ) (p q : RunState) (ended : Ended) → p ≡ new_run → ReadsToEnd lo ln p q ended
-    → GivesFront ho hn q.text → Replays lo ln ho hn fo fn status.WriteFault
-replays_write_fault lo ln ho hn fo fn p q ended new t f =
-    let r : RunsTo q.text ended (t.taken ++ rest_of ln) = decided ln t.taken (RunsTo q.text ended) (run_decides lo ln p q ended new t) in
+pub replays_write_fault : (a b : SourceView) (m n : SinkView) (p q : RunState) (ended : Ended) → p ≡ new_run → ReadsToEnd a b p q ended
+    → GivesFront m n q.text → Rose m.faults n.faults → Replays a b m n status.WriteFault
+replays_write_fault a b m n p q ended new t f rose =
+    let r : RunsTo q.text ended (t.taken ++ rest_of b.left) = decided b.left t.taken (RunsTo q.text ended) (run_decides a b p q ended new t) in
     record {
       taken = t.taken;
-      rest = rest_of ln;
+      rest = rest_of b.left;
       given = f.front;
       consumed = t.consumed;
-      left = rest_is ln;
+      left = rest_is b.left;
       appended = f.given;
-      answers = record { cause = tt; front = (f.rest, r.text ∙ f.parts) };
+      answers = record { cause = rose; front = (f.rest, r.text ∙ f.parts) };
     }
 
 -- a read failed, and nothing was given
-pub replays_read_fault : (lo ln h : Option (List ℕ)) (f : Option ℕ) → ReadsFront lo ln → Replays lo ln h h f f status.ReadFault
-replays_read_fault lo ln h f t = record { taken = t.taken; rest = rest_of ln; given = []; consumed = t.consumed; left = rest_is ln; appended = appends_nothing h; answers = record { cause = tt; front = (_, refl) } }
+pub replays_read_fault : (a b : SourceView) (m : SinkView) → ReadsFront a b → HasFault a b → Replays a b m m status.ReadFault
+replays_read_fault a b m t rose = record {
+  taken = t.taken;
+  rest = rest_of b.left;
+  given = [];
+  consumed = t.consumed;
+  left = rest_is b.left;
+  appended = appends_nothing m.held;
+  answers = record { cause = rose; front = (_, refl) };
+}
 
 -- memory ran out, and nothing was given
-pub replays_no_memory : (lo ln h : Option (List ℕ)) (f : Option ℕ) → ReadsFront lo ln → Replays lo ln h h f f status.NoMemory
-replays_no_memory lo ln h f t = record { taken = t.taken; rest = rest_of ln; given = []; consumed = t.consumed; left = rest_is ln; appended = appends_nothing h; answers = record { cause = tt; front = (_, refl) } }
+pub replays_no_memory : (a b : SourceView) (m : SinkView) → ReadsFront a b → Replays a b m m status.NoMemory
+replays_no_memory a b m t = record {
+  taken = t.taken;
+  rest = rest_of b.left;
+  given = [];
+  consumed = t.consumed;
+  left = rest_is b.left;
+  appended = appends_nothing m.held;
+  answers = record { cause = tt; front = (_, refl) };
+}
 
 -- a replay answers no usage fault
-pub no_usage : (lo ln ho hn : Option (List ℕ)) (fo fn : Option ℕ) (s : Status) (place : ℕ) → Replays lo ln ho hn fo fn s → s ≡ status.Usage place → ⊥
-no_usage lo ln ho hn fo fn s place r e = let u : Replays lo ln ho hn fo fn (status.Usage place) = subst (Replays lo ln ho hn fo fn) e r in u.answers.cause
+pub no_usage : (a b : SourceView) (m n : SinkView) (s : Status) (place : ℕ) → Replays a b m n s → s ≡ status.Usage place → ⊥
+no_usage a b m n s place r e = let u : Replays a b m n (status.Usage place) = subst (Replays a b m n) e r in u.answers.cause

@@ -1,11 +1,12 @@
 -- The rule of each event as facts.
-use Rattle.std.proofs.Common.{◌≡◌, ℕ, ◌+◌, ◌≤◌, true, false, List, length, map, eq-eqb, le-leb}
+use Rattle.std.proofs.Common.{◌≡◌, ℕ, ◌+◌, ◌≤◌, true, false, List, length, map, ap, eq-eqb, le-leb}
 use Rattle.std.specs.List.{list_any, list_all}
 use Rattle.std.proofs.lemmas.Bool.{and_from, not_from_false}
+use Rattle.dl_types.specs.declared.refusal.Refusal.{Refusal}
 use Rattle.dl_types.specs.declared.row.Row.{Row}
 use Rattle.dl_types.specs.Places.{is_before, is_at_most}
-use Rattle.dl_transcript.specs.declared.event.Event.TheVariants.{Joined, Writer, Took}
-use Rattle.dl_transcript.specs.Legal.{History, keeps, has, last_or, is_from, is_taken, taken_at, stands_at}
+use Rattle.dl_transcript.specs.declared.event.Event.TheVariants.{Joined, Writer, Took, Refused}
+use Rattle.dl_transcript.specs.Legal.{History, Leaves, effect_on_read, may_refuse, after_refusal, keeps, sees, has, last_or, is_from, is_taken, taken_at, stands_at}
 use Rattle.dlog.specs.Machine.{grow, ack}
 
 -- a session is one more than the last
@@ -63,3 +64,13 @@ pub record MayAck (s : History) (r : Row) : Type 0 where
 pub keeps_ack : (s : History) (r : Row) → MayAck s r → keeps s (ack r) ≡ true
 unfolding keeps
 keeps_ack s r h = and_from _ _ h.stands (not_from_false _ h.fresh)
+
+-- a refusal that leaves reads keeps its rule
+pub keeps_refused : (s : History) (c : ℕ) (why : Refusal) → effect_on_read why ≡ Leaves → keeps s (Refused c why) ≡ true
+unfolding keeps
+keeps_refused s c why leaves = ap (may_refuse s (s.clients c).reader) leaves
+
+-- and leaves what was seen
+pub sees_refused : (s : History) (c : ℕ) (why : Refusal) → effect_on_read why ≡ Leaves → sees s (Refused c why) ≡ s
+unfolding sees
+sees_refused s c why leaves = ap (after_refusal s c) leaves

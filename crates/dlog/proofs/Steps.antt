@@ -1,11 +1,12 @@
 -- The machine and what was seen of it fit together, and so they do behind each step.
-use Rattle.std.proofs.Common.{◌≡◌, ℕ, ◌+◌, List, [], ◌∷◌, Option, Some, None, refl, sym, ap, arith}
+use Rattle.std.proofs.Common.{◌≡◌, ℕ, ◌+◌, Bool, true, false, cond, ◌==◌, List, [], ◌∷◌, length, Option, Some, None, refl, sym, ap, arith}
 use Rattle.std.proofs.lemmas.Option.{none-some}
 use Rattle.dl_schedule.specs.declared.step.Step.{Step}
 use Rattle.dl_schedule.specs.declared.step.Step.TheVariants as step
 use Rattle.dl_transcript.specs.declared.event.Event.{Event}
 use Rattle.dl_transcript.specs.declared.event.Event.TheVariants.{Joined, Created, Writer, Nothing}
-use Rattle.dl_transcript.specs.Legal.{History, StreamHistory, new_stream, new_client, no_history, has, keeps, sees}
+use Rattle.dl_transcript.specs.Legal.{History, StreamHistory, ClientHistory, new_stream, new_client, no_history, has, keeps, sees}
+use Rattle.dl_transcript.specs.Histories.{put_reader}
 use Rattle.dl_transcript.proofs.Runs.{Keeps, none, more}
 use Rattle.dlog.specs.declared.order.Order.{Order}
 use Rattle.dlog.specs.declared.order.Order.TheVariants as order
@@ -13,7 +14,7 @@ use Rattle.dlog.specs.Machine.{Log, State, Effect, start, new_log, segment, appe
 use Rattle.dlog.proofs.Leads.{Leads, leads_none, leads_one, leads_both, leads_to}
 use Rattle.dlog.proofs.Rules.{keeps_joined, keeps_writer}
 use Rattle.dlog.proofs.Rows.{took_none}
-use Rattle.dlog.proofs.WriterHistories.{writer_fits}
+use Rattle.dlog.proofs.WriterHistories.{records_stay, writer_fits}
 use Rattle.dlog.proofs.Coupled.{LogFits, ActLeads, append_leads, flush_leads, confirm_leads}
 
 -- sessions alone were seen
@@ -56,10 +57,24 @@ sessions_seen : (sessions : ℕ) (log : Option Log) (s : History) → LogSeen se
 sessions_seen sessions None s h = h.joined
 sessions_seen sessions (Some g) s h = h.seen.joined
 
--- a session more changes nothing else
-seen_with : (sessions k : ℕ) (log : Option Log) (s : History) → LogSeen sessions log s → LogSeen k log (record s { sessions = k })
-seen_with sessions k None s h = record { joined = refl; streams = h.streams; clients = h.clients }
-seen_with sessions k (Some g) s h = record { rows = h.rows; grown = h.grown; took = h.took; parts = h.parts; seen = record { joined = refl; rows = h.seen.rows; records = h.seen.records } }
+-- a client of which nothing was seen
+none_seen : (s : History) (c d : ℕ) → ((x : ℕ) → s.clients x ≡ new_client) → (put_reader s c None).clients d ≡ new_client
+none_seen s c d clients = go (d == c)
+  where
+    go : (t : Bool) → cond t (record (s.clients c) { reader = None }) (s.clients d) ≡ new_client
+    go true = ap (λ (x : ClientHistory). record x { reader = None }) (clients c)
+    go false = clients d
+
+-- a session more changes nothing else but a reader
+seen_with : (sessions c k : ℕ) (log : Option Log) (s : History) → LogSeen sessions log s → LogSeen k log (record (put_reader s c None) { sessions = k })
+seen_with sessions c k None s h = record { joined = refl; streams = h.streams; clients = λ d. none_seen s c d h.clients }
+seen_with sessions c k (Some g) s h = record {
+  rows = h.rows;
+  grown = h.grown;
+  took = h.took;
+  parts = h.parts;
+  seen = record { joined = refl; rows = h.seen.rows; records = records_stay s c g.client g.stream h.rows (length h.grown) h.seen.records };
+}
 
 -- a client joins
 join_leads : (s : State) (c : ℕ) (seen : History) → Coupled s seen → StepLeads seen (record s { sessions = s.sessions + 1 }, Joined c (s.sessions + 1) ∷ [])
@@ -67,7 +82,7 @@ unfolding sees
 join_leads s c seen h =
     leads_one (Coupled (record s { sessions = s.sessions + 1 })) seen (Joined c (s.sessions + 1))
     (keeps_joined seen c (s.sessions + 1) (record { next = ap (λ n. n + 1) (sym (sessions_seen s.sessions s.log seen h.log)) }))
-    (record { log = seen_with s.sessions (s.sessions + 1) s.log seen h.log; order = h.order })
+    (record { log = seen_with s.sessions c (s.sessions + 1) s.log seen h.log; order = h.order })
 
 -- orders
 
@@ -142,7 +157,6 @@ MayStep log _ = Unit {0}
 -- each step leads to what fits the machine behind it
 pub one_leads : (s : State) (x : Step) (seen : History) → MayStep s.log x → Coupled s seen → StepLeads seen (one s x)
 unfolding one
-one_leads s (step.Setup bookies ensemble write_quorum ack_quorum) seen may h = leads_none (Coupled s) seen h
 one_leads s (step.Join c) seen may h = join_leads s c seen h
 one_leads s (step.Create c stream) seen may h = order_leads s (order.Create c stream) seen may h
 one_leads s (step.Open c stream) seen may h = order_leads s (order.Open c stream) seen may h
@@ -150,3 +164,4 @@ one_leads s (step.Append c txid payload) seen may h =
     on_log_leads (λ g. append g txid payload) (Nothing ∷ []) s.sessions s.order s.log seen (λ g fit. append_leads s.sessions g txid payload seen fit) (nothing_kept seen) h
 one_leads s (step.Flush c) seen may h = on_log_leads flush (Nothing ∷ []) s.sessions s.order s.log seen (λ g fit. flush_leads s.sessions g seen fit) (nothing_kept seen) h
 one_leads s step.Settle seen may h = settle_leads s seen h
+one_leads s _ seen may h = leads_none (Coupled s) seen h

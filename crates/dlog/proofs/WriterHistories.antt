@@ -1,8 +1,8 @@
 -- What a transcript has shown of a writer, and how the events of its records lead on.
-use Rattle.std.proofs.Common.{◌≡◌, ℕ, ◌+◌, ◌-◌, ◌≤◌, true, false, ◌&&◌, nat_le, ◌==◌, List, [], ◌∷◌, ◌++◌, length, map, Some, None, refl, sym, ap, ◌∙◌, subst, arith, eq-eqb, le-leb, append_assoc, append-nil}
+use Rattle.std.proofs.Common.{◌≡◌, ℕ, ◌+◌, ◌-◌, ◌≤◌, Bool, true, false, cond, ◌&&◌, nat_le, ◌==◌, List, [], ◌∷◌, ◌++◌, length, map, Some, None, refl, sym, ap, ◌∙◌, subst, arith, eq-eqb, le-leb, append_assoc, append-nil}
 use Rattle.std.specs.Prelude.{slice_get, bytes_eq, option_map}
 use Rattle.std.specs.List.{list_any, list_all, flat_map}
-use Rattle.std.proofs.lemmas.Bool.{and_from, cond-true, cond-false, ne_eqb, not_from_false}
+use Rattle.std.proofs.lemmas.Bool.{and_from, cond-true, cond-false, eqb-true, ne_eqb, not_from_false}
 use Rattle.std.proofs.lemmas.List.{length_push, length-map, map_push}
 use Rattle.std.proofs.lemmas.Slice.Eq.{bytes_eq-Decides}
 use Rattle.std.proofs.lemmas.Option.{slice_get-map}
@@ -11,6 +11,7 @@ use Rattle.dl_types.specs.declared.row.Row.{Row}
 use Rattle.dl_types.specs.Places.{is_before, is_at_most, is_same, first_place}
 use Rattle.dl_transcript.specs.declared.event.Event.TheVariants.{Took, Writer}
 use Rattle.dl_transcript.specs.Legal.{History, StreamHistory, ClientHistory, TakenRecord, new_stream, new_client, sees, put_stream, put_client, last_or, is_from, is_taken, taken_at, stands_at}
+use Rattle.dl_transcript.specs.Histories.{put_reader}
 use Rattle.dlog.specs.Machine.{segment, grow, ack, entry_events}
 use Rattle.dlog.proofs.Leads.{Leads, leads_none, leads_one, leads_both}
 use Rattle.dlog.proofs.Rules.{keeps_took, MayGrow, keeps_grow, MayAck, keeps_ack}
@@ -56,6 +57,18 @@ pub record Fits (w : WriterHistory) (s : History) : Type 0 where
   pub joined : s.sessions ≡ w.sessions
   pub rows : StreamFits w.grown (s.streams w.stream)
   pub records : ClientFits w.stream w.taken w.acked (s.clients w.client)
+
+-- a client that joins anew keeps its records
+pub records_stay : (s : History) (c d : ℕ) (stream : List ℕ) (rows : List Row) (acks : ℕ) → ClientFits stream rows acks (s.clients d)
+    → ClientFits stream rows acks ((put_reader s c None).clients d)
+records_stay s c d stream rows acks f = go (d == c) refl
+  where
+    go : (t : Bool) → (d == c) ≡ t → ClientFits stream rows acks (cond t (record (s.clients c) { reader = None }) (s.clients d))
+    go true e = record {
+      taken = ap (λ x. (s.clients x).taken) (sym (eqb-true d c e)) ∙ f.taken;
+      acked = ap (λ x. list_all (λ n. nat_le n acks) (s.clients x).acked) (sym (eqb-true d c e)) ∙ f.acked;
+    }
+    go false e = f
 
 -- what was seen of the client that a row names
 of_client : (w : WriterHistory) (s : History) (c : ℕ) → c ≡ w.client → Fits w s → ClientFits w.stream w.taken w.acked (s.clients c)

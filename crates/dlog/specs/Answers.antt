@@ -3,7 +3,9 @@ use Rattle.std.specs.Prelude.{◌≡◌, ℕ, List, [], ◌++◌, Option, Some, 
 use Rattle.std.specs.Io.KnownBytes.{Consumes, Appends, IsAtEnd}
 use Rattle.dl_types.specs.declared.status.Status.{Status}
 use Rattle.dl_types.specs.declared.status.Status.TheVariants as status
+use Rattle.dl_io.specs.Causes.{Rose}
 use Rattle.dl_io.specs.Sinks.{FinishesAll}
+use Rattle.dl_io.specs.Views.{SourceView, SinkView}
 use Rattle.dl_transcript.specs.Legal.{is_legal}
 use Rattle.dl_transcript.specs.Lines.{print_transcript}
 use Rattle.dlog.specs.declared.ended.Ended.{Ended}
@@ -21,22 +23,22 @@ pub data Decides (left : Option (List ℕ)) (taken : List ℕ) (P : List ℕ →
   whatever : ((more : List ℕ) → P (taken ++ more)) → Decides left taken P
 
 -- a run has read so far: it ends as it did before, behind the bytes that it has taken from its source
-pub record ReadsOn (left_old left_new : Option (List ℕ)) (old new : RunState) : Type 0 where
+pub record ReadsOn (from to : SourceView) (old new : RunState) : Type 0 where
   pub taken : List ℕ
-  pub consumed : Consumes left_old left_new taken
+  pub consumed : Consumes from.left to.left taken
   pub same : (more : List ℕ) → ends_as old (taken ++ more) ≡ ends_as new more
 
 -- a run has read to this end: the bytes that it has taken from its source decide it
-pub record ReadsToEnd (left_old left_new : Option (List ℕ)) (old new : RunState) (ended : Ended) : Type 0 where
+pub record ReadsToEnd (from to : SourceView) (old new : RunState) (ended : Ended) : Type 0 where
   pub taken : List ℕ
-  pub consumed : Consumes left_old left_new taken
-  pub decides : Decides left_new taken (λ text. ends_as old text ≡ outcome_at new ended)
-  pub all : ended ≡ Done → IsAtEnd left_new
+  pub consumed : Consumes from.left to.left taken
+  pub decides : Decides to.left taken (λ text. ends_as old text ≡ outcome_at new ended)
+  pub all : ended ≡ Done → IsAtEnd to.left
 
 -- some bytes were taken
-pub record ReadsFront (left_old left_new : Option (List ℕ)) : Type 0 where
+pub record ReadsFront (from to : SourceView) : Type 0 where
   pub taken : List ℕ
-  pub consumed : Consumes left_old left_new taken
+  pub consumed : Consumes from.left to.left taken
 
 -- the run over a text prints this, and comes to this end
 pub record RunsTo (given : List ℕ) (ended : Ended) (input : List ℕ) : Type 0 where
@@ -67,49 +69,37 @@ end_of (status.Unavailable need have) = None
 end_of status.AlreadyInitialised = None
 end_of (status.Lacking ledger entry) = None
 
--- the source or the sink failed, or memory ran out
-abbrev pub IsCut : Status → Type 0
-IsCut status.Ok = ⊥
-IsCut (status.Usage place) = ⊥
-IsCut (status.BadSchedule line column) = ⊥
-IsCut status.ReadFault = Unit {0}
-IsCut status.WriteFault = Unit {0}
-IsCut (status.Limit name number) = ⊥
-IsCut status.NoMemory = Unit {0}
-IsCut (status.DeviceFault file) = ⊥
-IsCut status.NotInitialised = ⊥
-IsCut (status.Damaged file at) = ⊥
-IsCut status.NoStream = ⊥
-IsCut status.StreamExists = ⊥
-IsCut (status.Refused refusal) = ⊥
-IsCut (status.Unavailable need have) = ⊥
-IsCut status.AlreadyInitialised = ⊥
-IsCut (status.Lacking ledger entry) = ⊥
-
--- a replay was cut: some front of what the run prints was given
-pub record CutShort (given input : List ℕ) (s : Status) : Type 0 where
-  pub cause : IsCut s
-  pub front : IsFront given (run input).text
+-- the source or the sink failed, which it counted, or memory ran out
+abbrev pub IsCut : SourceView → SourceView → SinkView → SinkView → Status → Type 0
+IsCut from to old new status.ReadFault = Rose from.faults to.faults
+IsCut from to old new status.WriteFault = Rose old.faults new.faults
+IsCut from to old new status.NoMemory = Unit {0}
+IsCut from to old new other = ⊥
 
 -- A replay came to this end: the run over the text prints what was given, which is the printing of its own transcript,
 -- and that is legal; what was taken decides this, and is all for a good end; and all that the sink holds is finished.
-pub record CameTo (left : Option (List ℕ)) (taken rest given : List ℕ) (held : Option (List ℕ)) (finished_old finished_new : Option ℕ) (ended : Ended) : Type 0 where
+pub record CameTo (left : Option (List ℕ)) (old new : SinkView) (taken rest given : List ℕ) (ended : Ended) : Type 0 where
   pub runs : RunsTo given ended (taken ++ rest)
   pub legal : PrintsLegal given (taken ++ rest)
   pub decides : Decides left taken (RunsTo given ended)
   pub all : ended ≡ Done → IsAtEnd left
-  pub finished : FinishesAll held finished_old finished_new
+  pub finished : FinishesAll old new
+
+-- a replay was cut: some front of what the run prints was given
+pub record CutShort (from to : SourceView) (old new : SinkView) (given input : List ℕ) (s : Status) : Type 0 where
+  pub cause : IsCut from to old new s
+  pub front : IsFront given (run input).text
 
 -- A replay answered with this status: it took these bytes, these are left (none, where the source doesn't tell), and it
 -- gave this text; it came to the end of this status, or was cut short.
-pub record Replays (left_old left_new held_old held_new : Option (List ℕ)) (finished_old finished_new : Option ℕ) (s : Status) : Type 0 where
+pub record Replays (from to : SourceView) (old new : SinkView) (s : Status) : Type 0 where
   pub taken : List ℕ
   pub rest : List ℕ
   pub given : List ℕ
-  pub consumed : Consumes left_old left_new taken
-  pub left : MatchOption left_new (rest ≡ []) (λ bytes. bytes ≡ rest)
-  pub appended : Appends held_old held_new given
-  pub answers : MatchOption (end_of s) (CutShort given (taken ++ rest) s) (CameTo left_new taken rest given held_new finished_old finished_new)
+  pub consumed : Consumes from.left to.left taken
+  pub left : MatchOption to.left (rest ≡ []) (λ bytes. bytes ≡ rest)
+  pub appended : Appends old.held new.held given
+  pub answers : MatchOption (end_of s) (CutShort from to old new given (taken ++ rest) s) (CameTo to.left old new taken rest given)
 
 -- the status of a run that was brought to its end
 abbrev pub status_of : Ended → Status

@@ -3,7 +3,8 @@ use Rattle.std.specs.Prelude.{◌≡◌, ℕ, ◌+◌, ◌≤◌, List, [], ◌�
 use Rattle.dl_text.specs.Columns.{StopsAt, ReadsWhole}
 use Rattle.dl_schedule.specs.declared.step.Step.{Step}
 use Rattle.dl_schedule.specs.Faults.{parsed_early}
-use Rattle.dl_schedule.specs.Lines.{IsEarly, print_step}
+use Rattle.dl_schedule.specs.EarlyLines.{IsEarly}
+use Rattle.dl_schedule.specs.StepLines.{step_line}
 use Rattle.dl_transcript.specs.Legal.{is_legal}
 use Rattle.dlog.specs.declared.ended.Ended.{Ended}
 use Rattle.dlog.specs.declared.ended.Ended.TheVariants.{Done, BadLine}
@@ -15,8 +16,8 @@ use Rattle.dlog.specs.RunStates.{limit_of}
 -- The line of this number is read exactly: the answer is a step that it may say, whose spelling it is, or the column where
 -- it stops to be one; and a step whose spelling it is, is the answer.
 pub record IsRead (n : ℕ) (line : List ℕ) : Type 0 where
-  pub found : ReadsWhole (IsEarly n) print_step line (parsed_early n line)
-  pub again : (s : Step) → IsEarly n s → line ≡ print_step s → parsed_early n line ≡ Ok s
+  pub found : ReadsWhole (IsEarly n) step_line line (parsed_early n line)
+  pub again : (s : Step) → IsEarly n s → line ≡ step_line s → parsed_early n line ≡ Ok s
 
 -- each line is read exactly
 abbrev pub LinesAreRead : Type 0
@@ -28,9 +29,9 @@ pub data Say : ℕ → ℕ → List (List ℕ) → Schedule → Type 0 where
   no_line : {n bytes : ℕ} → Say n bytes [] (no_steps Done)
   past_limit : {n bytes : ℕ} {line : List ℕ} {lines : List (List ℕ)} {ended : Ended} → limit_of n (bytes + length line) ≡ Some ended → Say n bytes (line ∷ lines) (no_steps ended)
   bad_line : {n bytes : ℕ} {line : List ℕ} {lines : List (List ℕ)} {column : ℕ} → limit_of n (bytes + length line) ≡ None
-      → StopsAt (IsEarly (n + 1)) print_step line column → Say n bytes (line ∷ lines) (no_steps (BadLine (n + 1) column))
+      → StopsAt (IsEarly (n + 1)) step_line line column → Say n bytes (line ∷ lines) (no_steps (BadLine (n + 1) column))
   one_step : {n bytes : ℕ} {line : List ℕ} {lines : List (List ℕ)} {s : Step} {rest : Schedule} → limit_of n (bytes + length line) ≡ None
-      → IsEarly (n + 1) s → line ≡ print_step s → Say (n + 1) (bytes + length line) lines rest → Say n bytes (line ∷ lines) (with_line (n + 1) (Ok s) rest)
+      → IsEarly (n + 1) s → line ≡ step_line s → Say (n + 1) (bytes + length line) lines rest → Say n bytes (line ∷ lines) (with_line (n + 1) (Ok s) rest)
 
 -- the steps of a schedule are those that its lines say
 abbrev pub SchedulesAreRead : Type 0

@@ -143,15 +143,15 @@ settle s =
     let now = finish s s.order in
     ((on_log confirm [] now.0 now.0.log).0, now.1 ++ (on_log confirm [] now.0 now.0.log).1)
 
--- one step, and what it shows
+-- one step, and what it shows; a step that no early schedule has changes nothing
 unfoldable pub one : State → Step → Effect State
-one s (step.Setup bookies ensemble write_quorum ack_quorum) = (s, [])
 one s (step.Join c) = (record s { sessions = s.sessions + 1 }, Joined c (s.sessions + 1) ∷ [])
 one s (step.Create c stream) = (record s { order = Some (order.Create c stream) }, [])
 one s (step.Open c stream) = (record s { order = Some (order.Open c stream) }, [])
 one s (step.Append c txid payload) = on_log (λ g. append g txid payload) (Nothing ∷ []) s s.log
 one s (step.Flush c) = on_log flush (Nothing ∷ []) s s.log
 one s step.Settle = settle s
+one s _ = (s, [])
 
 -- no count of the log has reached this number
 pub record LogWithin (n : ℕ) (g : Log) : Type 0 where

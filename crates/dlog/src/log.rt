@@ -7,7 +7,7 @@ ghost use Rattle.dlog.specs.Counts.{HasRoom};
 
 use crate::entry::Entry;
 use dl_transcript::event::Event;
-use dl_transcript::print::{put_ack, put_event, put_grow, put_took};
+use dl_transcript::print::{put_ack, put_event, put_grow, put_sent, put_took};
 use dl_types::client::ClientId;
 use dl_types::dlsn::Dlsn;
 use dl_types::memory::NoMemory;
@@ -208,14 +208,9 @@ impl Log {
     {
         let entry = mem::replace(&mut self.filling, Entry::new(self.alloc));
         self.waiting.push(entry)?;
-        let number = self.sent;
+        put_sent(out, line, self.client, SEGMENT, self.sent)?;
         self.sent += 1;
-        let event = Event::Sent {
-            client: self.client,
-            segment: SEGMENT,
-            entry: number,
-        };
-        put_event(out, line, &event)
+        Ok(())
     }
 }
 

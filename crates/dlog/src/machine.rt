@@ -6,8 +6,9 @@ use crate::log::{Log, SEGMENT};
 use crate::order::Order;
 use dl_schedule::step::Step;
 use dl_transcript::event::Event;
-use dl_transcript::print::put_event;
+use dl_transcript::print::{put_event, put_joined, put_writer};
 use dl_types::memory::NoMemory;
+use dl_types::session::SessionId;
 use std::alloc::Global;
 use std::marker::Model;
 
@@ -51,14 +52,9 @@ impl Machine {
         ensures shown { OnOk result (out.new.items ≡ out.old.items ++ print_all line (one self.old step).1) }
     {
         match step {
-            Step::Setup { .. } => Ok(()),
             Step::Join { client } => {
                 self.sessions += 1;
-                let event = Event::Joined {
-                    client,
-                    session: self.sessions,
-                };
-                put_event(out, line, &event)
+                put_joined(out, line, client, SessionId::new(self.sessions))
             }
             Step::Create { client, stream } => {
                 self.order = Some(Order::Create { client, stream });
@@ -77,6 +73,7 @@ impl Machine {
                 Some(log) => log.flush(line, out),
             },
             Step::Settle => self.settle(line, out),
+            _ => Ok(()),
         }
     }
 
@@ -115,12 +112,7 @@ impl Machine {
                 put_event(out, line, &Event::Created { client, stream })
             }
             Order::Open { client, stream } => {
-                let event = Event::Writer {
-                    client,
-                    stream: stream.share()?,
-                    segment: SEGMENT,
-                };
-                put_event(out, line, &event)?;
+                put_writer(out, line, client, &stream, SEGMENT)?;
                 self.log = Some(Log::new(self.alloc, client, stream));
                 Ok(())
             }

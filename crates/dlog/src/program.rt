@@ -1,6 +1,6 @@
 ghost use Rattle.std.specs.Prelude.{◌≡◌, ◌↔◌, ℕ, Ok, Err, IsErr, IfOk};
 ghost use Rattle.std.specs.Process.{exit_status};
-ghost use Rattle.dl_io.specs.Notes.{Noted, NoteFinished, note};
+ghost use Rattle.dl_io.specs.Notes.{Notes};
 ghost use Rattle.dl_types.specs.Statuses.{status_number};
 ghost use Rattle.dlog.specs.Answers.{Replays};
 ghost use Rattle.dlog.specs.Commands.{command_of};
@@ -32,14 +32,12 @@ pub fn program<S: Source, K: Sink, N: Sink>(
 ) -> Status
     ensures no_words { IsErr words → result ≡ Status.NoMemory }
     ensures untouched { IsErr words → (source.new ≡ source.old) × (sink.new ≡ sink.old) }
-    ensures usage { IfOk words (λ w. (place : ℕ) → (result ≡ Status.Usage place) ↔ (command_of w.items ≡ Err place)) }
+    ensures usage { IfOk words (λ w. (place : ℕ) →
+        (result ≡ Status.Usage place) ↔ (command_of w.items ≡ Err place)) }
     ensures replays { IfOk words (λ w. command_of w.items ≡ Ok Command.Replay →
-        Replays (S.left source.old) (S.left source.new) (K.held sink.old) (K.held sink.new)
-        (K.finished sink.old) (K.finished sink.new) result) }
-    ensures noted { Noted (N.held notes.old) (N.held notes.new) (N.write_faults notes.old)
-        (N.write_faults notes.new) (note result) }
-    ensures finished { NoteFinished (N.held notes.new) (N.finished notes.old) (N.finished notes.new)
-        (N.write_faults notes.old) (N.write_faults notes.new) result }
+        Replays (S.view source.old) (S.view source.new) (K.view sink.old) (K.view sink.new)
+        result) }
+    ensures notes { Notes (N.view notes.old) (N.view notes.new) result }
 {
     match words {
         Err(NoMemory) => {

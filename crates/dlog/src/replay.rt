@@ -1,7 +1,6 @@
-ghost use Rattle.std.specs.Prelude.{◌≡◌, ◌<◌, length, IfOk, OnOk, IsErrOf};
-ghost use Rattle.std.specs.Io.KnownBytes.{Appends};
-ghost use Rattle.dl_io.specs.Causes.{Rose, HasCause};
-ghost use Rattle.dl_io.specs.Sinks.{FinishesAll, GivesFront};
+ghost use Rattle.std.specs.Prelude.{◌≡◌, ◌<◌, length, IfOk, IsErrOf};
+ghost use Rattle.dl_io.specs.Sources.{HasFault};
+ghost use Rattle.dl_io.specs.Sinks.{WritesOut};
 ghost use Rattle.dl_types.specs.declared.status.Status.{Status};
 ghost use Rattle.dlog.specs.declared.replay.ReadStop.TheVariants.{Fault, NoMemory as Exhausted};
 ghost use Rattle.dlog.specs.Answers.{ReadsToEnd, ReadsFront, Replays, status_of};
@@ -59,9 +58,11 @@ fn read_pieces<S: Source>(
 ) -> Result<Ended, ReadStop>
     requires ready { IsReady run.old }
     requires room { 0 < length piece.old }
-    ensures reads { IfOk result (ReadsToEnd (S.left source.old) (S.left source.new) run.old run.new) }
-    ensures front { ReadsFront (S.left source.old) (S.left source.new) }
-    ensures cause { IsErrOf result ReadStop.Fault → Rose (S.read_faults source.old) (S.read_faults source.new) }
+    ensures reads { IfOk result (ReadsToEnd (S.view source.old) (S.view source.new)
+        run.old run.new) }
+    ensures front { ReadsFront (S.view source.old) (S.view source.new) }
+    ensures cause { IsErrOf result ReadStop.Fault →
+        HasFault (S.view source.old) (S.view source.new) }
 {
     loop {
         let count = source.take(piece)?;
@@ -77,9 +78,11 @@ fn read_pieces<S: Source>(
 /// Brings a run to the end of the input or to its stop.
 fn read_run<S: Source>(alloc: Global, source: &mut S, run: &mut Run) -> Result<Ended, ReadStop>
     requires { IsReady run.old }
-    ensures reads { IfOk result (ReadsToEnd (S.left source.old) (S.left source.new) run.old run.new) }
-    ensures front { ReadsFront (S.left source.old) (S.left source.new) }
-    ensures cause { IsErrOf result ReadStop.Fault → Rose (S.read_faults source.old) (S.read_faults source.new) }
+    ensures reads { IfOk result (ReadsToEnd (S.view source.old) (S.view source.new)
+        run.old run.new) }
+    ensures front { ReadsFront (S.view source.old) (S.view source.new) }
+    ensures cause { IsErrOf result ReadStop.Fault →
+        HasFault (S.view source.old) (S.view source.new) }
 {
     let mut piece = make_piece(alloc)?;
     read_pieces(source, piece.as_mut_slice(), run)
@@ -87,10 +90,7 @@ fn read_run<S: Source>(alloc: Global, source: &mut S, run: &mut Run) -> Result<E
 
 /// Gives a whole text to the sink, and finishes it.
 fn give<K: Sink>(sink: &mut K, text: &[u8]) -> Result<(), WriteFailed>
-    ensures ok { OnOk result (Appends (K.held sink.old) (K.held sink.new) text.now) }
-    ensures finished { OnOk result (FinishesAll (K.held sink.new) (K.finished sink.old) (K.finished sink.new)) }
-    ensures some { GivesFront (K.held sink.old) (K.held sink.new) text.now }
-    ensures cause { HasCause (K.write_faults sink.old) (K.write_faults sink.new) result }
+    ensures { WritesOut (K.view sink.old) (K.view sink.new) text.now result }
 {
     write_all(sink, text)?;
     sink.finish()
@@ -115,10 +115,8 @@ fn replay_run<S: Source, K: Sink>(
     run: &mut Run,
 ) -> Status
     requires { run.old ≡ new_run }
-    ensures replays { Replays (S.left source.old) (S.left source.new) (K.held sink.old) (K.held sink.new)
-        (K.finished sink.old) (K.finished sink.new) result }
-    ensures read { result ≡ Status.ReadFault → Rose (S.read_faults source.old) (S.read_faults source.new) }
-    ensures write { result ≡ Status.WriteFault → Rose (K.write_faults sink.old) (K.write_faults sink.new) }
+    ensures { Replays (S.view source.old) (S.view source.new) (K.view sink.old) (K.view sink.new)
+        result }
 {
     match read_run(alloc, source, run) {
         Err(ReadStop::Fault) => Status::ReadFault,
@@ -133,10 +131,8 @@ fn replay_run<S: Source, K: Sink>(
 /// Replays the schedule that the source has left, and gives its transcript to the sink: reads, runs and then gives. The
 /// source is read no further than it takes to know the stop.
 pub fn replay<S: Source, K: Sink>(alloc: Global, source: &mut S, sink: &mut K) -> Status
-    ensures replays { Replays (S.left source.old) (S.left source.new) (K.held sink.old) (K.held sink.new)
-        (K.finished sink.old) (K.finished sink.new) result }
-    ensures read { result ≡ Status.ReadFault → Rose (S.read_faults source.old) (S.read_faults source.new) }
-    ensures write { result ≡ Status.WriteFault → Rose (K.write_faults sink.old) (K.write_faults sink.new) }
+    ensures { Replays (S.view source.old) (S.view source.new) (K.view sink.old) (K.view sink.new)
+        result }
 {
     let mut run = Run::new(alloc);
     replay_run(alloc, source, sink, &mut run)

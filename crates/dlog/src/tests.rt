@@ -341,9 +341,7 @@ fn one_event_is_one_line(rt: HostRuntime) -> Result<(), Fail> {
 struct Endless;
 
 impl Source for Endless {
-    ghost left = { λ _. None };
-
-    ghost read_faults = { λ _. 0 };
+    ghost view = { λ _. record { left = None; faults = 0 } };
 
     fn take(&mut self, into: &mut [u8]) -> Result<usize, ReadFailed> {
         for byte in into.iter_mut() {

@@ -1,6 +1,5 @@
 ghost use Rattle.std.specs.Prelude.{◌≡◌, ◌↔◌, ℕ, Ok, Err, IsErr};
-ghost use Rattle.dl_io.specs.Causes.{Rose};
-ghost use Rattle.dl_io.specs.Notes.{Noted, NoteFinished, note};
+ghost use Rattle.dl_io.specs.Notes.{Notes};
 ghost use Rattle.dlog.specs.Answers.{Replays};
 ghost use Rattle.dlog.specs.Commands.{command_of};
 
@@ -20,13 +19,12 @@ fn run_words<S: Source, K: Sink>(
     source: &mut S,
     sink: &mut K,
 ) -> Status
-    ensures usage { (place : ℕ) → (result ≡ Status.Usage place) ↔ (command_of words.now ≡ Err place) }
-    ensures untouched { IsErr (command_of words.now) → (source.new ≡ source.old) × (sink.new ≡ sink.old) }
+    ensures usage { (place : ℕ) →
+        (result ≡ Status.Usage place) ↔ (command_of words.now ≡ Err place) }
+    ensures untouched { IsErr (command_of words.now) →
+        (source.new ≡ source.old) × (sink.new ≡ sink.old) }
     ensures replays { command_of words.now ≡ Ok Command.Replay →
-        Replays (S.left source.old) (S.left source.new) (K.held sink.old) (K.held sink.new)
-        (K.finished sink.old) (K.finished sink.new) result }
-    ensures read { result ≡ Status.ReadFault → Rose (S.read_faults source.old) (S.read_faults source.new) }
-    ensures write { result ≡ Status.WriteFault → Rose (K.write_faults sink.old) (K.write_faults sink.new) }
+        Replays (S.view source.old) (S.view source.new) (K.view sink.old) (K.view sink.new) result }
 {
     match command_of(words) {
         Err(place) => Status::Usage { place },
@@ -53,17 +51,13 @@ pub fn dlog_main<S: Source, K: Sink, N: Sink>(
     sink: &mut K,
     notes: &mut N,
 ) -> Status
-    ensures usage { (place : ℕ) → (result ≡ Status.Usage place) ↔ (command_of words.now ≡ Err place) }
-    ensures untouched { IsErr (command_of words.now) → (source.new ≡ source.old) × (sink.new ≡ sink.old) }
+    ensures usage { (place : ℕ) →
+        (result ≡ Status.Usage place) ↔ (command_of words.now ≡ Err place) }
+    ensures untouched { IsErr (command_of words.now) →
+        (source.new ≡ source.old) × (sink.new ≡ sink.old) }
     ensures replays { command_of words.now ≡ Ok Command.Replay →
-        Replays (S.left source.old) (S.left source.new) (K.held sink.old) (K.held sink.new)
-        (K.finished sink.old) (K.finished sink.new) result }
-    ensures read { result ≡ Status.ReadFault → Rose (S.read_faults source.old) (S.read_faults source.new) }
-    ensures write { result ≡ Status.WriteFault → Rose (K.write_faults sink.old) (K.write_faults sink.new) }
-    ensures noted { Noted (N.held notes.old) (N.held notes.new) (N.write_faults notes.old)
-        (N.write_faults notes.new) (note result) }
-    ensures finished { NoteFinished (N.held notes.new) (N.finished notes.old) (N.finished notes.new)
-        (N.write_faults notes.old) (N.write_faults notes.new) result }
+        Replays (S.view source.old) (S.view source.new) (K.view sink.old) (K.view sink.new) result }
+    ensures notes { Notes (N.view notes.old) (N.view notes.new) result }
     ensures silent { result ≡ Status.Ok → notes.new ≡ notes.old }
 {
     let status = run_words(alloc, words, source, sink);

@@ -1,5 +1,11 @@
-use Rattle.dl_io.proofs.WriteLemmas.{writes_then}
+use Rattle.std.proofs.lemmas.Result.{err_from_is_err_and}
+use Rattle.dl_io.proofs.WriteLemmas.{writes_then, writes_stopped}
 use Rattle.dl_io.proofs.notes.write_both.Goals as goal
 
+pub returns-in_err-write_all : goal.returns-in_err-write_all
+returns-in_err-write_all g c =
+    let p = err_from_is_err_and c.from_residual.result c.from_residual.ensures.1 in
+    rw p.1 (writes_stopped _ _ (c.args.first.now) (c.args.second.now) _ _ c.in_err-write_all.ensures)
+
 pub returns : goal.returns
-returns g c = writes_then _ _ _ _ _ _ _ _ _ (c.args.first.now) (c.args.second.now) _ _ c.in_ok-write_all.ensures c.write_all-2.ensures
+returns g c = writes_then _ _ _ (c.args.first.now) (c.args.second.now) _ _ c.in_ok-write_all.ensures c.write_all-2.ensures

@@ -7,7 +7,7 @@ use Rattle.dl_io.proofs.notes.write_line.Goals as goal
 pub returns-in_err-write_all : goal.returns-in_err-write_all
 returns-in_err-write_all g c =
     let p = err_from_is_err_and c.from_residual.result c.from_residual.ensures.1 in
-    rw p.1 (writes_stopped _ _ _ _ _ _ (codes "dlog: ") (note_text c.args.status.now) _ _ c.in_err-write_all.ensures)
+    rw p.1 (writes_stopped _ _ (codes "dlog: ") (note_text c.args.status.now) _ _ c.in_err-write_all.ensures)
 
 pub returns : goal.returns
-returns g c = writes_then _ _ _ _ _ _ _ _ _ (codes "dlog: ") (note_text c.args.status.now) _ _ c.in_ok-write_all.ensures c.write_text.ensures
+returns g c = writes_then _ _ _ (codes "dlog: ") (note_text c.args.status.now) _ _ c.in_ok-write_all.ensures c.write_text.ensures

@@ -8,7 +8,7 @@ use Rattle.dl_io.proofs.notes.write_moved.Goals as goal
 pub returns-in_err-write_bytes : goal.returns-in_err-write_bytes
 returns-in_err-write_bytes g c =
     let p = err_from_is_err_and c.from_residual.result c.from_residual.ensures.1 in
-    rw p.1 (writes_stopped _ _ _ _ _ _ (bytes_field space c.args.path.now) (number line_feed c.args.version) _ _ c.in_err-write_bytes.ensures)
+    rw p.1 (writes_stopped _ _ (bytes_field space c.args.path.now) (number line_feed c.args.version) _ _ c.in_err-write_bytes.ensures)
 
 pub returns : goal.returns
-returns g c = writes_then _ _ _ _ _ _ _ _ _ (bytes_field space c.args.path.now) (number line_feed c.args.version) _ _ c.in_ok-write_bytes.ensures c.write_number.ensures
+returns g c = writes_then _ _ _ (bytes_field space c.args.path.now) (number line_feed c.args.version) _ _ c.in_ok-write_bytes.ensures c.write_number.ensures

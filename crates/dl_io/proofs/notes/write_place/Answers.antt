@@ -8,7 +8,11 @@ use Rattle.dl_io.proofs.notes.write_place.Goals as goal
 pub returns-in_err-write_number : goal.returns-in_err-write_number
 returns-in_err-write_number g c =
     let p = err_from_is_err_and c.from_residual.result c.from_residual.ensures.1 in
-    rw p.1 (writes_stopped _ _ _ _ _ _ (number colon c.args.place.now.segment) (number colon c.args.place.now.entry ++ number line_feed c.args.place.now.slot) _ _ c.in_err-write_number.ensures)
+    rw p.1
+    (writes_stopped _ _ (number colon c.args.place.now.segment) (number colon c.args.place.now.entry ++ number line_feed c.args.place.now.slot) _ _
+    c.in_err-write_number.ensures)
 
 pub returns : goal.returns
-returns g c = writes_then _ _ _ _ _ _ _ _ _ (number colon c.args.place.now.segment) (number colon c.args.place.now.entry ++ number line_feed c.args.place.now.slot) _ _ c.in_ok-write_number.ensures c.write_entry_slot.ensures
+returns g c =
+    writes_then _ _ _ (number colon c.args.place.now.segment)
+    (number colon c.args.place.now.entry ++ number line_feed c.args.place.now.slot) _ _ c.in_ok-write_number.ensures c.write_entry_slot.ensures

@@ -13,7 +13,8 @@ pub returns-in-NotInitialised : goal.returns-in-NotInitialised
 returns-in-NotInitialised g c = rw c.in-NotInitialised.is c.write_all-in-NotInitialised.ensures
 
 pub returns-in-Unavailable : goal.returns-in-Unavailable
-returns-in-Unavailable g c = rw c.in-Unavailable.is (rw (c.from-in-Unavailable.ensures, c.from-in-Unavailable-2.ensures) at c.write_two_numbers-in-Unavailable.ensures)
+returns-in-Unavailable g c =
+    rw c.in-Unavailable.is (rw (c.from-in-Unavailable.ensures, c.from-in-Unavailable-2.ensures) at c.write_two_numbers-in-Unavailable.ensures)
 
 pub returns-in-Lacking : goal.returns-in-Lacking
 returns-in-Lacking g c = rw c.in-Lacking.is c.write_two_numbers-in-Lacking.ensures

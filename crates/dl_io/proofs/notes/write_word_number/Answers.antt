@@ -6,7 +6,7 @@ use Rattle.dl_io.proofs.notes.write_word_number.Goals as goal
 pub returns-in_err-write_all : goal.returns-in_err-write_all
 returns-in_err-write_all g c =
     let p = err_from_is_err_and c.from_residual.result c.from_residual.ensures.1 in
-    rw p.1 (writes_stopped _ _ _ _ _ _ (c.args.text.now) (number c.args.end c.args.value) _ _ c.in_err-write_all.ensures)
+    rw p.1 (writes_stopped _ _ (c.args.text.now) (number c.args.end c.args.value) _ _ c.in_err-write_all.ensures)
 
 pub returns : goal.returns
-returns g c = writes_then _ _ _ _ _ _ _ _ _ (c.args.text.now) (number c.args.end c.args.value) _ _ c.in_ok-write_all.ensures c.write_number.ensures
+returns g c = writes_then _ _ _ (c.args.text.now) (number c.args.end c.args.value) _ _ c.in_ok-write_all.ensures c.write_number.ensures

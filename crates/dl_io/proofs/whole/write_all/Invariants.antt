@@ -7,9 +7,9 @@ abbrev pub invariant-loop-rest : goal.invariant-loop-rest
 invariant-loop-rest g l =
     let K = g.K.Sink in
     record {
-      given : GivenBefore (K.held l.fn.sink) (K.held l.sink) l.text l.rest;
-      kept : KeepsAmount (K.finished l.fn.sink) (K.finished l.sink);
-      later : K.write_faults l.fn.sink ≤ K.write_faults l.sink;
+      given : GivenBefore (K.view l.fn.sink) (K.view l.sink) l.text l.rest;
+      kept : KeepsAmount (K.view l.fn.sink).finished (K.view l.sink).finished;
+      later : (K.view l.fn.sink).faults ≤ (K.view l.sink).faults;
     }
 
 abbrev pub decreases-loop-rest : goal.decreases-loop-rest

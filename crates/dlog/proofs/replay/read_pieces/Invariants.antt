@@ -8,9 +8,9 @@ abbrev pub invariant-loop-count : goal.invariant-loop-count
 invariant-loop-count g l =
     let S = g.S.Source in
     record {
-      reads : ReadsOn (S.left l.fn.source) (S.left l.source) l.fn.run l.run;
+      reads : ReadsOn (S.view l.fn.source) (S.view l.source) l.fn.run l.run;
       ready : IsReady l.run;
-      later : S.read_faults l.fn.source ≤ S.read_faults l.source;
+      later : (S.view l.fn.source).faults ≤ (S.view l.source).faults;
       room : 0 < length l.piece;
     }
 
