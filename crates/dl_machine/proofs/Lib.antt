@@ -1,0 +1,6 @@
+pub mod RunLaws
+pub mod FateLaws
+pub mod Movements
+pub mod StayLaws
+pub mod Settlings
+pub mod SessionLaws
