@@ -1,0 +1,17 @@
+pub mod Done
+pub mod Keyed
+pub mod Children
+pub mod Told
+pub mod Streams
+pub mod Ledgers
+pub mod Segments
+pub mod Requests
+pub mod Moves
+pub mod Steps
+pub mod Stays
+pub mod Closings
+pub mod Runs
+pub mod Happens
+pub mod Listed
+pub mod OnLedgers
+pub mod Readings

@@ -1,0 +1,4 @@
+pub mod Keyed
+pub mod Effects
+pub mod Histories
+pub mod Laws
