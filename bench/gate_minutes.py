@@ -1,59 +1,82 @@
 #!/usr/bin/env python3
-"""Prints what each crate costs the gate, in processor minutes: its proof, its tests and its must-fail edits together.
+"""Runs the gate once, whole, and prints what each crate costs it in processor minutes: its proof, its tests and its must-fail edits.
 
-usage: gate_minutes.py [CRATE..]
+usage: gate_minutes.py [FOLDER]
 
-Each crate of crates.txt, lowest first, is given to `rt ci CRATE` in a clone beside the repository, one at a time. What an earlier run on
-this machine has passed is kept and costs nothing, so a crate counts only where it or a crate below it has changed: the table is one
-from nothing on a machine that has kept nothing. It is run by hand, and is no part of the tests.
+The gate (`.ci/run`, which proves all from nothing) runs in FOLDER, this repository where none is given; its output goes to
+`gate.log` in the current folder, and its last line is printed last. While it runs, the processes below it are looked at twice a
+second: a process that works on a crate names it, and its processor time counts for that crate. What a process uses in its last half
+second is not seen, nor is one that ends sooner, so the parts sum to a little less than the whole, which is told exactly. Other work
+on the machine makes the minutes longer. It is run by hand, and is no part of the tests.
 """
+import os
 import pathlib
 import resource
 import subprocess
 import sys
-import tempfile
+import time
 
 TOP = pathlib.Path(__file__).resolve().parent.parent
+TICKS = os.sysconf("SC_CLK_TCK")
 
 
-def crates():
-    """The crates with their lines of code, lowest first: the order is that of their edges, and not of the lines of the file."""
-    below = {}
-    for line in (TOP / "crates.txt").read_text().splitlines():
-        name, mark, deps = line.partition(":")
-        if mark and not line.startswith("#"):
-            below[name.strip()] = deps.split()
-    done = []
-    while len(done) < len(below):
-        done += [n for n in below if n not in done and all(d in done or d not in below for d in below[n])]
-    return done
+def children_of():
+    """The processes of the machine by their parents: number, time of start, processor seconds."""
+    found = {}
+    for entry in pathlib.Path("/proc").iterdir():
+        if entry.name.isdigit():
+            try:
+                fields = (entry / "stat").read_text().rsplit(")", 1)[1].split()
+            except OSError:
+                continue
+            seconds = (int(fields[11]) + int(fields[12])) / TICKS
+            found.setdefault(int(fields[1]), []).append((int(entry.name), fields[19], seconds))
+    return found
 
 
-def code_lines(crate):
-    return sum(len(p.read_text().splitlines()) for p in (TOP / "crates" / crate / "src").rglob("*.rt"))
+def crate_of(pid):
+    """The crate that a process names, none where it names none."""
+    try:
+        words = pathlib.Path(f"/proc/{pid}/cmdline").read_text().split("\0")
+    except OSError:
+        return None
+    return words[words.index("--crate-name") + 1] if "--crate-name" in words[:-1] else None
 
 
-def used():
-    times = resource.getrusage(resource.RUSAGE_CHILDREN)
-    return times.ru_utime + times.ru_stime
+def look(children, pid, crate, seen):
+    """Notes the time of each process below one; those that name no crate work for the crate of their parent."""
+    for child, start, seconds in children.get(pid, []):
+        own = crate_of(child) or crate
+        if own:
+            seen[child, start] = (own, seconds)
+        look(children, child, own, seen)
+
+
+def code_lines(top, crate):
+    return sum(len(path.read_text().splitlines()) for path in (top / "crates" / crate / "src").rglob("*.rt"))
 
 
 def main():
-    wanted = sys.argv[1:] or crates()
-    with tempfile.TemporaryDirectory() as folder:
-        copy = pathlib.Path(folder) / "gate"
-        subprocess.run(["git", "clone", "-q", str(TOP), str(copy)], check=True)
-        print(f"{'crate':18} {'lines':>6} {'minutes':>8} {'a thousand':>11}  last line")
-        total = 0.0
-        for crate in wanted:
-            before = used()
-            run = subprocess.run(["rt", "ci", crate], cwd=copy, capture_output=True, text=True)
-            minutes = (used() - before) / 60
-            total += minutes
-            lines = code_lines(crate)
-            last = (run.stdout.strip().splitlines() or ["no output"])[-1]
-            print(f"{crate:18} {lines:6} {minutes:8.1f} {1000 * minutes / max(lines, 1):11.1f}  {last}", flush=True)
-        print(f"{'all':18} {'':6} {total:8.1f}")
+    top = pathlib.Path(sys.argv[1]).resolve() if sys.argv[1:] else TOP
+    seen, begun = {}, time.monotonic()
+    with open("gate.log", "wb") as log:
+        gate = subprocess.Popen([str(top / ".ci" / "run")], cwd=top, stdout=log, stderr=subprocess.STDOUT)
+        while gate.poll() is None:
+            look(children_of(), gate.pid, None, seen)
+            time.sleep(0.5)
+    used = resource.getrusage(resource.RUSAGE_CHILDREN)
+    minutes = {}
+    for crate, seconds in seen.values():
+        minutes[crate] = minutes.get(crate, 0) + seconds / 60
+    print(f"{'crate':18} {'lines':>6} {'minutes':>8} {'a thousand':>11}")
+    for crate, count in sorted(minutes.items(), key=lambda item: -item[1]):
+        lines = code_lines(top, crate)
+        print(f"{crate:18} {lines:6} {count:8.1f} {1000 * count / max(lines, 1):11.1f}")
+    whole = (used.ru_utime + used.ru_stime) / 60
+    print(f"{'seen':18} {'':6} {sum(minutes.values()):8.1f}")
+    print(f"{'all':18} {'':6} {whole:8.1f}    in {(time.monotonic() - begun) / 60:.1f} minutes of the clock")
+    print(pathlib.Path("gate.log").read_text(errors="replace").strip().splitlines()[-1])
+    return gate.returncode
 
 
-main()
+sys.exit(main())
