@@ -1,0 +1,17 @@
+-- What a metadata store leaves on its file is loaded again as it was.
+use Rattle.std.specs.Prelude.{◌≡◌, ◌⊎◌, ◌<◌, ℕ, List, [], length}
+use Rattle.dl_journal.specs.Batches.{IsJournal}
+use Rattle.dl_rules_nodes.specs.Metadata.{MetaNode}
+use Rattle.dl_rules_nodes.specs.MetaOrder.{AreInOrder}
+use Rattle.dl_meta.specs.Standing.{HoldsItems}
+use Rattle.dl_meta.specs.Loading.{IsDamagedAt}
+
+-- These bytes are not damaged, they hold some item, and they are those of no other node.
+pub record IsOnly (n : MetaNode) (bytes : List ℕ) : Type 0 where
+  pub whole : (at : ℕ) → IsDamagedAt bytes at → ⊥
+  pub some : (bytes ≡ []) ⊎ IsJournal bytes [] → ⊥
+  pub only : (m : MetaNode) → AreInOrder m.items → HoldsItems m bytes → m ≡ n
+
+-- bytes that hold the items of a node are loaded as that node
+abbrev pub GivesBack : Type 0
+GivesBack = (n : MetaNode) (bytes : List ℕ) → AreInOrder n.items → 0 < length n.items → HoldsItems n bytes → IsOnly n bytes
