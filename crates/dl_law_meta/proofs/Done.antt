@@ -21,7 +21,7 @@ pub guard_ok : {A E : Type 0} (b : Bool) (d : E) (x : Result A E) (y : A) → co
 guard_ok true d x y e = absurd (cc)
 guard_ok false d x y e = (refl, e)
 
-chosen_ok : {A E : Type 0} (b : Bool) (d : E) (x : Result A E) (y : A) → cond b x (Err d) ≡ Ok y → (b ≡ true) × (x ≡ Ok y)
+pub chosen_ok : {A E : Type 0} (b : Bool) (d : E) (x : Result A E) (y : A) → cond b x (Err d) ≡ Ok y → (b ≡ true) × (x ≡ Ok y)
 chosen_ok true d x y e = (refl, e)
 chosen_ok false d x y e = absurd (cc)
 

@@ -2,6 +2,7 @@ pub mod Done
 pub mod Keyed
 pub mod Children
 pub mod Told
+pub mod Answered
 pub mod Streams
 pub mod Ledgers
 pub mod Segments

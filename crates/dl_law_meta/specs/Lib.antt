@@ -1,4 +1,5 @@
 pub mod Keyed
 pub mod Effects
+pub mod Answers
 pub mod Histories
 pub mod Laws

@@ -1,11 +1,18 @@
 //! What holds of the requests of the orders and of the items of the metadata node.
 
+ghost use Rattle.dl_law_meta.specs.Answers.{EachOperationAnswers};
 ghost use Rattle.dl_law_meta.specs.Laws.{EachRequestLeaves, ConfigurationMakes, EachItemMoves, MembersAloneHaveOwners, LastingNodesStay, EachLedgerIsMadeOnce, MakersStay, LooksStayWhileMaxseqStands, ClosedLedgersStay, SegmentsStayOnLedgers, StartersStay, EachReadingStays, EachNumberRunsOnce};
 
 /// Each request of a stream's orders, in any tree, met and leaves there what its kind says, by keys; one that fails or only
 /// reads leaves the tree as it was.
 pub fn each_request_leaves()
     ensures { EachRequestLeaves }
+{}
+
+/// Each operation of a request that is done has its answer: a set answers the version that it leaves, one above the version that
+/// it names.
+pub fn each_operation_answers()
+    ensures { EachOperationAnswers }
 {}
 
 /// A configuration makes three nodes: its own, and those of all streams and of all ledgers.
