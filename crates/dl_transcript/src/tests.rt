@@ -118,24 +118,12 @@ fn put(out: &mut Vec<u8>, event: Event) -> Result<(), NoMemory> {
     put_event(out, LINE, &event)
 }
 
-/// The client's end of a link.
-fn here() -> Address {
-    Address::Client(client())
-}
-
-/// A storage node's end of a link.
-fn bookie() -> Address {
-    Address::Bookie(BookieId::new(15))
-}
-
-fn put_mail(out: &mut Vec<u8>, from: Address, to: Address, count: u32) -> Result<(), NoMemory> {
-    put(out, Event::Mail { from, to, count })
-}
-
 #[test]
 fn sessions_and_links(rt: HostRuntime) -> Result<(), Fail> {
     let client = client();
     let name = Name::new(rt.alloc(), b"log-1")?;
+    let here = Address::Client(client);
+    let bookie = Address::Bookie(BookieId::new(15));
     let mut out = Vec::new(rt.alloc());
     let session = SessionId::new(1);
     put_joined(&mut out, LINE, client, session)?;
@@ -149,10 +137,14 @@ fn sessions_and_links(rt: HostRuntime) -> Result<(), Fail> {
     put(&mut out, Event::Released { client, stream })?;
     let stream = name.share()?;
     put(&mut out, Event::Whole { client, stream })?;
-    put_mail(&mut out, here(), bookie(), 3)?;
-    put_mail(&mut out, bookie(), here(), 1)?;
-    put_mail(&mut out, Address::Meta, here(), u32::MAX)?;
-    put_mail(&mut out, here(), Address::Meta, 2)?;
+    for (from, to, count) in [
+        (here, bookie, 3),
+        (bookie, here, 1),
+        (Address::Meta, here, u32::MAX),
+        (here, Address::Meta, 2),
+    ] {
+        put(&mut out, Event::Mail { from, to, count })?;
+    }
     put(&mut out, Event::Nothing)?;
     assert_eq!(rt; out.as_slice(), SESSIONS.as_bytes());
     Ok(())
