@@ -47,7 +47,8 @@ fn overwrite_page(memory: &mut [u8], page: u32, part: &[u8])
     requires part { length part.now ≤ 4096 }
     requires page { HasPage memory.old page }
     ensures here { take (length part.now) (drop (page * 4096) memory.new) ≡ part.now }
-    ensures others { (other : ℕ) → other ≢ page → page_bytes memory.new other ≡ page_bytes memory.old other }
+    ensures others { (other : ℕ) → other ≢ page
+        → page_bytes memory.new other ≡ page_bytes memory.old other }
 {
     let start = page as usize * PAGE;
     memory[start..start + part.len()].copy_from_slice(part);
@@ -71,7 +72,8 @@ pub fn fill(memory: &mut Vec<u8>, next: &[u32], first: u32, bytes: &[u8]) -> u32
     requires within { (page : ℕ) →
         0 < times page (walk next.now first (pages_of (length bytes.now)))
         → page < length next.now }
-    requires once { (page : ℕ) → times page (walk next.now first (pages_of (length bytes.now))) ≤ 1 }
+    requires once { (page : ℕ)
+        → times page (walk next.now first (pages_of (length bytes.now))) ≤ 1 }
     ensures after { result ≡ page_after next.now first (pages_of (length bytes.now)) }
     ensures here { let chain = walk next.now first (pages_of (length bytes.now)) in
         concat (parts_in memory.new.items chain (length bytes.now)) ≡ bytes.now }

@@ -39,8 +39,8 @@ impl Model for Pool {
 
     ghost view = { λ p. pool_of p.memory.items p.next.items p.lengths.items };
 
-    ghost invariant = { λ p. IsKept p.memory.items (vec_capacity p.memory) p.next.items p.lengths.items
-        p.free p.spare };
+    ghost invariant = { λ p.
+        IsKept p.memory.items (vec_capacity p.memory) p.next.items p.lengths.items p.free p.spare };
 }
 
 /// The numbers from 1 on, so many.
@@ -115,7 +115,8 @@ impl Pool {
     /// Copies a piece out.
     pub fn copy_out(&self, span: &Span, into: &mut [u8])
         requires live { IsLive self.now span.now }
-        requires size { ForSome (bytes_at self.now span.now) (λ bytes. length bytes ≡ length into.old) }
+        requires size { ForSome (bytes_at self.now span.now)
+            (λ bytes. length bytes ≡ length into.old) }
         ensures { bytes_at self.now span.now ≡ Some into.new }
     {
         let mut at = 0;
