@@ -19,6 +19,7 @@ alive_is h f set alive = go (h.due == 1) (has_stopped h.fuse) alive (ap (λ (o :
     go true b is same = absurd (cc is)
     go false b is same = sym same ∙ is
 
+-- what a stopped call leaves is never the end of a call that passed
 not_passed : (o : Outcome) → stop_of o ≢ Passed
 not_passed Before is = absurd (cc is)
 not_passed After is = absurd (cc is)
@@ -29,6 +30,7 @@ pub record LetsPass (f : Fuse) : Type 0 where
   pub one_less : f.left ≡ rest + 1
   pub burns : fuse_after f ≡ record f { left = rest }
 
+-- a fuse by which a call passes lets it pass, and is set on if it counts
 pub lets_pass : (f : Fuse) → end_by f ≡ Passed → LetsPass f
 lets_pass f passed = go (f.left == 0) refl passed
   where
@@ -46,6 +48,7 @@ pub record StopsNext (f : Fuse) : Type 0 where
   pub end_is : end_by f ≡ stop_of f.outcome
   pub burns : fuse_after f ≡ record f { stopped = true }
 
+-- a fuse by which a call doesn't pass stops the next call
 pub stops_next : (f : Fuse) → end_by f ≢ Passed → StopsNext f
 stops_next f stops = go (f.left == 0) refl
   where
@@ -58,7 +61,8 @@ stops_next f stops = go (f.left == 0) refl
     go false is = absurd (stops (ap (λ (b : Bool). cond b (stop_of f.outcome) Passed) is))
 
 -- what is left shown where it stopped the call
-pub stop_shows : (o : Outcome) (call : DeviceCall) (bytes was last : List ℕ) → shown_by call bytes (stop_of o) was last ≡ left_by o (effect_of call bytes was) last
+pub stop_shows : (o : Outcome) (call : DeviceCall) (bytes was last : List ℕ)
+    → shown_by call bytes (stop_of o) was last ≡ left_by o (effect_of call bytes was) last
 stop_shows Before call bytes was last = refl
 stop_shows After call bytes was last = refl
 
@@ -68,11 +72,13 @@ write_keeps at n Passed was last = refl
 write_keeps at n StoppedAfter was last = refl
 write_keeps at n StoppedBefore was last = refl
 
+-- a cut leaves the bytes that were synced last
 pub cut_keeps : (size : ℕ) (end : End) (was last : List ℕ) → synced_by (Cut size) end was last ≡ last
 cut_keeps size Passed was last = refl
 cut_keeps size StoppedAfter was last = refl
 cut_keeps size StoppedBefore was last = refl
 
+-- a call that a fuse stopped leaves the bytes that were synced last
 pub stop_keeps : (call : DeviceCall) (end : End) (was last : List ℕ) → end ≢ Passed → synced_by call end was last ≡ last
 stop_keeps call Passed was last stops = absurd (stops refl)
 stop_keeps call StoppedAfter was last stops = refl

@@ -1,5 +1,6 @@
 -- A call of a depot in memory: what it makes of the meanings.
-use Rattle.std.proofs.Common.{◌≡◌, ◌≢◌, ◌↔◌, inl, inr, ℕ, ◌≤◌, ◌<◌, List, [], ◌∷◌, ◌++◌, reverse, take, length, Option, Some, Bool, true, false, ◌==◌, Ok, Err, sym, subst, refl, ◌∙◌, ap, arith, length-append}
+use Rattle.std.proofs.Common.{◌≡◌, ◌≢◌, ◌↔◌, inl, inr, ℕ, ◌≤◌, ◌<◌, List, [], ◌∷◌, ◌++◌, reverse, take, length, Option}
+use Rattle.std.proofs.Common.{Some, Bool, true, false, ◌==◌, Ok, Err, sym, subst, refl, ◌∙◌, ap, arith, length-append}
 use Rattle.std.proofs.lemmas.Bool.Decides.{nat_tests}
 use Rattle.std.proofs.lemmas.List.{take-append-le, take_all, reverse-append}
 use Rattle.dl_depot.specs.declared.device_call.DeviceCall.{DeviceCall}
@@ -12,31 +13,36 @@ use Rattle.dl_depot.specs.declared.fuse.Fuse.{Fuse}
 use Rattle.dl_depot.specs.View.{View, Keeps}
 use Rattle.dl_depot.specs.Device.{Step, Writes, Stops, effect_of, left_by}
 use Rattle.dl_depot.specs.Held.{Held, is_refused, after_call, after_fault, end_of, set_fuse_after, after_work, shown_by}
-use Rattle.dl_depot.specs.Log.{call_of, state_of, Choose, Stepped, Left, ImageOf, IsLog, view_of}
+use Rattle.dl_depot.specs.Log.{call_of, state_of, Choose, IsStepped, Left, ImageOf, IsLog, view_of}
 use Rattle.dl_depot.specs.Reads.{step_same, state_left}
 use Rattle.dl_depot.proofs.Moments.{ordered, keeps_refl}
 use Rattle.dl_depot.proofs.Fuses.{alive_is, lets_pass, stops_next, stop_shows}
 
+-- what holds just when a second does, and the second just when a third, holds just when the third does
 both : {A B C : Type 0} → A ↔ B → B ↔ C → A ↔ C
 both p q = (λ a. q.0 (p.0 a), λ c. p.1 (q.1 c))
 
+-- what holds just when a second does: the second holds just when it does
 turn : {A B : Type 0} → A ↔ B → B ↔ A
 turn p = (p.1, p.0)
 
+-- what is there in two equal options is one thing
 some_is : {X : Type 0} (x y : X) → Some x ≡ Some y → x ≡ y
 some_is x y e = cc
 
 -- what may be left is left by a step
-step_left : (call : DeviceCall) (end : End) (shown c : List ℕ) (Old : List ℕ → Type 0) → Old shown → Left call end shown Old c → Stepped call Old c
+step_left : (call : DeviceCall) (end : End) (shown c : List ℕ) (Old : List ℕ → Type 0) → Old shown → Left call end shown Old c → IsStepped call Old c
 step_left (Write at n) Passed shown c Old old left = left
 step_left (Cut size) Passed shown c Old old left = left
 step_left Sync Passed shown c Old old left = (shown, old, left)
 step_left call StoppedAfter shown c Old old left = left
 step_left call StoppedBefore shown c Old old left = left
 
+-- the numbers of different files don't compare equal
 pub other_file : (a b : ℕ) → b ≢ a → (a == b) ≡ false
 other_file a b other = grind (arith, nat_tests)
 
+-- a file's number compares equal to itself
 pub this_file : (a b : ℕ) → a ≡ b → (a == b) ≡ true
 this_file a b same = grind (arith, nat_tests)
 
@@ -57,10 +63,13 @@ module _ (log : List LoggedCall) (held now : ℕ → Held) (file : ℕ) (others 
   }
 
   image_still : (t : ℕ) (c : List ℕ) → length log ≤ t → t ≤ length log → (view_of log held).image file t c ↔ (view_of log held).image file (length log) c
-  image_still t c from to = let at : t ≡ length log = omega (arith, from, to) in subst (λ (n : ℕ). (view_of log held).image file n c ↔ (view_of log held).image file (length log) c) (sym at) (λ i. i, λ i. i)
+  image_still t c from to =
+      let at : t ≡ length log = omega (arith, from, to) in
+      subst (λ (n : ℕ). (view_of log held).image file n c ↔ (view_of log held).image file (length log) c) (sym at) (λ i. i, λ i. i)
 
   -- a writing call failed before it did anything
-  pub fails : now file ≡ after_fault (after_call (held file)) → (call : DeviceCall) (bytes : List ℕ) (e : DeviceFault) → Writes (view_of log held) (view_of log now) file call bytes (Err e)
+  pub fails : now file ≡ after_fault (after_call (held file)) → (call : DeviceCall) (bytes : List ℕ) (e : DeviceFault)
+      → Writes (view_of log held) (view_of log now) file call bytes (Err e)
   fails here call bytes e = record {
     keeps = stays (let same = ap (λ (h : Held). h.faults) here in omega (arith, same));
     images = λ t c from to image. (c, (image_still t c from to).0 image, step_same call c);
@@ -104,8 +113,10 @@ module _ (log : List LoggedCall) (held now : ℕ → Held) (file : ℕ) (others 
   now_other f t c other late =
       let same = up_to_now t late in
       let test : (e.file == f) ≡ false = other_file e.file f (λ same_file. other (same_file ∙ its)) in
-      let Both : Bool → Type 0 = λ b. Choose b (Left (call_of e.work) e.end (state_of f past).0 (λ x. ImageOf f past x) c) (ImageOf f past c) in
-      (λ image. subst Both test (subst (λ (l : List LoggedCall). ImageOf f l c) same image), λ image. subst (λ (l : List LoggedCall). ImageOf f l c) (sym same) (subst Both (sym test) image))
+      let Both : Bool → Type 0 = λ b. Choose b (Left (call_of e.work) e.end (state_of f past).0 (λ x. ImageOf f past x) c) (ImageOf f past c) in (
+        λ image. subst Both test (subst (λ (l : List LoggedCall). ImageOf f l c) same image),
+        λ image. subst (λ (l : List LoggedCall). ImageOf f l c) (sym same) (subst Both (sym test) image),
+      )
 
   pub now_this : (t : ℕ) (c : List ℕ) → length log < t → new.image file t c → Left (call_of e.work) e.end (state_of file past).0 (λ x. ImageOf file past x) c
   now_this t c late image =
@@ -134,16 +145,22 @@ module _ (log : List LoggedCall) (held now : ℕ → Held) (file : ℕ) (others 
     no_fewer = no_fewer;
   }
 
-  pub images : IsLog past → (t : ℕ) (c : List ℕ) → old.moment ≤ t → t ≤ new.moment → new.image file t c → (d : List ℕ) × old.image file old.moment d × Step (call_of e.work) d c
+  pub images : IsLog past → (t : ℕ) (c : List ℕ) → old.moment ≤ t → t ≤ new.moment → new.image file t c
+      → (d : List ℕ) × old.image file old.moment d × Step (call_of e.work) d c
   images is t c from to image = elim (ordered t (length log)) [
-    | inl early ↦ (c, (turn (start file (length log) c refl)).0 ((start file t c (omega (arith, early, from))).0 ((still file t c early).0 image)), step_same (call_of e.work) c)
+    | inl early ↦ (
+      c,
+      (turn (start file (length log) c refl)).0 ((start file t c (omega (arith, early, from))).0 ((still file t c early).0 image)),
+      step_same (call_of e.work) c,
+    )
     | inr late ↦
         let left = step_left (call_of e.work) e.end (state_of file past).0 c (λ x. ImageOf file past x) (state_left file past is).0 (now_this t c late image) in
         (left.0, (start file (length log) left.0 refl).1 left.1, left.2)
   ]
 
   -- it succeeded
-  pub passed : IsLog past → (call : DeviceCall) (bytes : List ℕ) → call_of e.work ≡ call → is_refused (held file) ≡ false → end_of (held file).fuse ≡ Passed → now file ≡ after_work call bytes Passed (after_call (held file))
+  pub passed : IsLog past → (call : DeviceCall) (bytes : List ℕ) → call_of e.work ≡ call → is_refused (held file) ≡ false
+      → end_of (held file).fuse ≡ Passed → now file ≡ after_work call bytes Passed (after_call (held file))
       → Writes old new file call bytes (Ok tt)
   passed is call bytes is_call alive passes here = record {
     keeps = keeps (let same = ap (λ (h : Held). h.faults) here in omega (arith, same));
@@ -168,7 +185,8 @@ module _ (log : List LoggedCall) (held now : ℕ → Held) (file : ℕ) (others 
       told calls are = ap (λ (h : Held). Some h.calls) here ∙ ap (λ (l : List DeviceCall). Some (l ++ call ∷ [])) (some_is _ _ are)
 
   -- a fuse stopped it
-  pub stopped : IsLog past → (call : DeviceCall) (bytes : List ℕ) (fault : DeviceFault) → call_of e.work ≡ call → is_refused (held file) ≡ false → end_of (held file).fuse ≢ Passed
+  pub stopped : IsLog past → (call : DeviceCall) (bytes : List ℕ) (fault : DeviceFault) → call_of e.work ≡ call → is_refused (held file) ≡ false
+      → end_of (held file).fuse ≢ Passed
       → now file ≡ after_fault (after_work call bytes (end_of (held file).fuse) (after_call (held file))) → Writes old new file call bytes (Err fault)
   stopped is call bytes fault is_call alive stops here = record {
     keeps = keeps (let same = ap (λ (h : Held). h.faults) here in omega (arith, same));

@@ -1,5 +1,6 @@
 -- What each call of a depot does to its file, and what a stop may do between two syncs.
-use Rattle.std.specs.Prelude.{◌≡◌, ◌⊎◌, ◌↔◌, ◌≤◌, ◌+◌, ◌-◌, ◌^◌, ◌++◌, [], ◌∷◌, min, max, take, drop, ℕ, List, Some, None, true, false, length, Result, Ok, Err, OnOk, OnErr, IfOk}
+use Rattle.std.specs.Prelude.{◌≡◌, ◌⊎◌, ◌↔◌, ◌≤◌, ◌+◌, ◌-◌, ◌^◌, ◌++◌, [], ◌∷◌, min, max, take, drop, ℕ}
+use Rattle.std.specs.Prelude.{List, Some, None, true, false, length, Result, Ok, Err, OnOk, OnErr, IfOk}
 use Rattle.dl_depot.specs.declared.device_call.DeviceCall.{DeviceCall}
 use Rattle.dl_depot.specs.declared.device_call.DeviceCall.TheVariants.{Write, Cut, Sync}
 use Rattle.dl_depot.specs.declared.device_fault.DeviceFault.{DeviceFault}
@@ -22,31 +23,31 @@ pub record CountsFault {X : Type 0} (before now : ℕ) (result : Result X Device
   pub failed : OnErr result (Rose before now)
 
 -- after a write of n bytes that a stop cuts short: any bytes in the range and past the old end, the same elsewhere
-pub record Torn (at n : ℕ) (old new : List ℕ) : Type 0 where
+pub record IsTorn (at n : ℕ) (old new : List ℕ) : Type 0 where
   pub before : take at new ≡ take at old
   pub after : drop (at + n) new ≡ drop (at + n) old
   pub no_shorter : length old ≤ length new
   pub no_longer : length new ≤ max (length old) (at + n)
 
 -- after a cut that a stop cuts short: some length between
-pub record Shortened (n : ℕ) (old new : List ℕ) : Type 0 where
+pub record IsShortened (n : ℕ) (old new : List ℕ) : Type 0 where
   pub no_shorter : min n (length old) ≤ length new
   pub front : take (length new) old ≡ new
 
 -- old with these bytes at this place
-abbrev pub put : ℕ → List ℕ → List ℕ → List ℕ
-put at bytes old = take at old ++ (bytes ++ drop (at + length bytes) old)
+abbrev pub with_bytes : ℕ → List ℕ → List ℕ → List ℕ
+with_bytes at bytes old = take at old ++ (bytes ++ drop (at + length bytes) old)
 
 -- what each call does to the bytes shown
 abbrev pub effect_of : DeviceCall → List ℕ → List ℕ → List ℕ
-effect_of (Write at n) bytes old = put at bytes old
+effect_of (Write at n) bytes old = with_bytes at bytes old
 effect_of (Cut size) bytes old = take size old
 effect_of Sync bytes old = old
 
 -- what a stop in each call may make of an image
 abbrev pub Step : DeviceCall → List ℕ → List ℕ → Type 0
-Step (Write at n) old new = Torn at n old new
-Step (Cut size) old new = Shortened size old new
+Step (Write at n) old new = IsTorn at n old new
+Step (Cut size) old new = IsShortened size old new
 Step Sync old new = new ≡ old
 
 -- a call that changes no byte and no image
@@ -99,7 +100,8 @@ pub record Stops (old new : View) (file : ℕ) (call : DeviceCall) (bytes : List
   pub whole : f.stopped ≡ false
   pub due : f.left ≡ 0
   pub fuse : new.fuse file ≡ Some (Some (record f { stopped = true }))
-  pub shown : (was last : List ℕ) → old.shown file ≡ Some was → old.synced file ≡ Some last → new.shown file ≡ Some (left_by f.outcome (effect_of call bytes was) last)
+  pub shown : (was last : List ℕ) → old.shown file ≡ Some was → old.synced file ≡ Some last
+      → new.shown file ≡ Some (left_by f.outcome (effect_of call bytes was) last)
   pub told : (calls : List DeviceCall) → old.calls file ≡ Some calls → new.calls file ≡ Some (calls ++ call ∷ [])
 
 -- a fuse lets a call pass, stops it, or the call fails before the fuse comes to it

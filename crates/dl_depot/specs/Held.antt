@@ -1,5 +1,6 @@
 -- What a depot in memory holds of one file, and what each call makes of it.
-use Rattle.std.specs.Prelude.{◌≡◌, ◌≤◌, ◌+◌, ◌-◌, ◌++◌, [], ◌∷◌, ◌==◌, ◌||◌, min, max, take, ℕ, List, Option, Some, None, Bool, true, false, cond, length, Result, Ok, Err, MatchResult}
+use Rattle.std.specs.Prelude.{◌≡◌, ◌≤◌, ◌+◌, ◌-◌, ◌++◌, [], ◌∷◌, ◌==◌, ◌||◌, min, max, take, ℕ, List, Option}
+use Rattle.std.specs.Prelude.{Some, None, Bool, true, false, cond, length, Result, Ok, Err, MatchResult}
 use Rattle.std.specs.declared.alloc.AllocError.{AllocError}
 use Rattle.dl_depot.specs.declared.device_call.DeviceCall.{DeviceCall}
 use Rattle.dl_depot.specs.declared.device_call.DeviceCall.TheVariants.{Write, Cut, Sync}

@@ -1,5 +1,6 @@
 -- A depot in memory keeps each writing call with its bytes; what a stop at a past moment left is read from them.
-use Rattle.std.specs.Prelude.{◌≡◌, ◌≢◌, ◌⊎◌, ◌≤◌, ◌++◌, [], ◌∷◌, reverse, take, ℕ, List, Some, Bool, true, false, length, Result, Ok, Err, ◌==◌, nat_le, ◌&&◌, cond, slice_index_or, ⊤}
+use Rattle.std.specs.Prelude.{◌≡◌, ◌≢◌, ◌⊎◌, ◌≤◌, ◌++◌, [], ◌∷◌, reverse, take, ℕ, List, Some, Bool, true}
+use Rattle.std.specs.Prelude.{false, length, Result, Ok, Err, ◌==◌, nat_le, ◌&&◌, cond, slice_index_or, ⊤}
 use Rattle.std.specs.declared.alloc.AllocError.{AllocError}
 use Rattle.dl_depot.specs.declared.device_call.DeviceCall.{DeviceCall}
 use Rattle.dl_depot.specs.declared.device_call.DeviceCall.TheVariants.{Write, Cut, Sync}
@@ -41,20 +42,20 @@ Choose true A B = A
 Choose false A B = B
 
 -- left by a step from what has Old
-abbrev pub Stepped : DeviceCall → (List ℕ → Type 0) → List ℕ → Type 0
-Stepped call Old c = (d : List ℕ) × Old d × Step call d c
+abbrev pub IsStepped : DeviceCall → (List ℕ → Type 0) → List ℕ → Type 0
+IsStepped call Old c = (d : List ℕ) × Old d × Step call d c
 
 -- what a stop may leave after a call that passed, where it may have left what has Old
 abbrev pub LeftAfter : DeviceCall → List ℕ → (List ℕ → Type 0) → List ℕ → Type 0
-LeftAfter (Write at n) shown Old c = Stepped (Write at n) Old c
-LeftAfter (Cut size) shown Old c = Stepped (Cut size) Old c
+LeftAfter (Write at n) shown Old c = IsStepped (Write at n) Old c
+LeftAfter (Cut size) shown Old c = IsStepped (Cut size) Old c
 LeftAfter Sync shown Old c = c ≡ shown
 
 -- the same after a call with this end
 abbrev pub Left : DeviceCall → End → List ℕ → (List ℕ → Type 0) → List ℕ → Type 0
 Left call Passed shown Old c = LeftAfter call shown Old c
-Left call StoppedAfter shown Old c = Stepped call Old c
-Left call StoppedBefore shown Old c = Stepped call Old c
+Left call StoppedAfter shown Old c = IsStepped call Old c
+Left call StoppedBefore shown Old c = IsStepped call Old c
 
 -- what a stop may leave of a file after these calls, the newest first
 abbrev pub ImageOf : ℕ → List LoggedCall → List ℕ → Type 0
@@ -107,7 +108,7 @@ pub record IsKept (log : List LoggedCall) (files : List Held) : Type 0 where
   pub synced : (f : ℕ) → (state_of f (reverse log)).1 ≡ (held_at files f).synced
 
 -- a call has joined the log
-pub record Joined (file : ℕ) (call : DeviceCall) (bytes : List ℕ) (end : End) (log log_after : List LoggedCall) : Type 0 where
+pub record IsJoined (file : ℕ) (call : DeviceCall) (bytes : List ℕ) (end : End) (log log_after : List LoggedCall) : Type 0 where
   pub logged : LoggedCall
   pub its_file : logged.file ≡ file
   pub its_call : call_of logged.work ≡ call
@@ -117,14 +118,14 @@ pub record Joined (file : ℕ) (call : DeviceCall) (bytes : List ℕ) (end : End
 
 -- a writing call that nothing else fails: it joins the log and changes the file, or memory ran out and nothing is changed
 abbrev pub Tries : ℕ → DeviceCall → List ℕ → List LoggedCall → List LoggedCall → Held → Held → Result End AllocError → Type 0
-Tries file call bytes log log_after h k (Ok end) = (end ≡ end_of h.fuse) × Joined file call bytes end log log_after × (k ≡ after_work call bytes end h)
+Tries file call bytes log log_after h k (Ok end) = (end ≡ end_of h.fuse) × IsJoined file call bytes end log log_after × (k ≡ after_work call bytes end h)
 Tries file call bytes log log_after h k (Err e) = (log_after ≡ log) × (k ≡ h)
 
 -- a writing call was made, and its fuse let it pass
 pub record Succeeded (file : ℕ) (call : DeviceCall) (bytes : List ℕ) (log log_after : List LoggedCall) (h k : Held) : Type 0 where
   pub alive : is_refused h ≡ false
   pub passes : end_of h.fuse ≡ Passed
-  pub joined : Joined file call bytes Passed log log_after
+  pub joined : IsJoined file call bytes Passed log log_after
   pub here : k ≡ after_work call bytes Passed (after_call h)
 
 -- a writing call was refused, or found no memory
@@ -136,7 +137,7 @@ pub record Refused (log log_after : List LoggedCall) (h k : Held) : Type 0 where
 pub record Stopped (file : ℕ) (call : DeviceCall) (bytes : List ℕ) (log log_after : List LoggedCall) (h k : Held) : Type 0 where
   pub alive : is_refused h ≡ false
   pub stops : end_of h.fuse ≢ Passed
-  pub joined : Joined file call bytes (end_of h.fuse) log log_after
+  pub joined : IsJoined file call bytes (end_of h.fuse) log log_after
   pub here : k ≡ after_fault (after_work call bytes (end_of h.fuse) (after_call h))
 
 -- what a writing call does to the log and its file

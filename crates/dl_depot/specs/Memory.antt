@@ -31,7 +31,9 @@ pub record Looked {X : Type 0} (old new : ℕ → Held) (file : ℕ) (result : R
 -- or finds no memory, only its fault is counted. Where its fuse stops it, it was made.
 abbrev pub Did : DeviceCall → List ℕ → Held → Held → Result (Unit {0}) DeviceFault → Type 0
 Did call bytes h k (Ok u) = (is_refused h ≡ false) × (end_of h.fuse ≡ Passed) × (k ≡ after_work call bytes Passed (after_call h))
-Did call bytes h k (Err e) = (k ≡ after_fault (after_call h)) ⊎ ((is_refused h ≡ false) × (end_of h.fuse ≢ Passed) × (k ≡ after_fault (after_work call bytes (end_of h.fuse) (after_call h))))
+Did call bytes h k (Err e) =
+    (k ≡ after_fault (after_call h)) ⊎ ((is_refused h ≡ false) × (end_of h.fuse ≢ Passed)
+    × (k ≡ after_fault (after_work call bytes (end_of h.fuse) (after_call h))))
 
 -- the same, with the other files
 pub record Wrought (old new : ℕ → Held) (file : ℕ) (call : DeviceCall) (bytes : List ℕ) (result : Result (Unit {0}) DeviceFault) : Type 0 where

@@ -10,7 +10,7 @@ use Rattle.dl_depot.specs.declared.logged_call.Work.TheVariants
 use Rattle.dl_depot.specs.declared.logged_call.End.{End}
 use Rattle.dl_depot.specs.declared.logged_call.End.TheVariants.{Passed, StoppedBefore, StoppedAfter}
 use Rattle.dl_depot.specs.declared.logged_call.LoggedCall.{LoggedCall}
-use Rattle.dl_depot.specs.Device.{Torn, Shortened, put, Step}
+use Rattle.dl_depot.specs.Device.{IsTorn, IsShortened, with_bytes, Step}
 use Rattle.dl_depot.specs.Held.{Held, shown_by, synced_by}
 use Rattle.dl_depot.specs.Log.{call_of, bytes_of, state_after, state_of, Choose, Left, ImageOf, IsInside, IsLog, is_inside, is_log, held_at, view_of, IsKept}
 
@@ -40,8 +40,8 @@ step_same (Cut size) c = record { no_shorter = omega arith; front = take_all (le
 step_same Sync c = refl
 
 -- a stop may leave all that a write wrote
-pub written : (at : ℕ) (bytes old : List ℕ) → at ≤ length old → Torn at (length bytes) old (put at bytes old)
-written at bytes old le = record {
+pub write_is_torn : (at : ℕ) (bytes old : List ℕ) → at ≤ length old → IsTorn at (length bytes) old (with_bytes at bytes old)
+write_is_torn at bytes old le = record {
   before = take_at (take at old) _ at front;
   after =
       ap (λ (l : List ℕ). drop (at + length bytes) l) (sym (append_assoc (take at old) bytes (drop (at + length bytes) old)))
@@ -53,12 +53,19 @@ written at bytes old le = record {
     front : length (take at old) ≡ at
     front = omega (arith, length-take at old, le)
 
-    whole : length (put at bytes old) ≡ at + (length bytes + (length old - (at + length bytes)))
-    whole = omega (arith, front, length-append (take at old) (bytes ++ drop (at + length bytes) old), length-append bytes (drop (at + length bytes) old), length-drop (at + length bytes) old)
+    whole : length (with_bytes at bytes old) ≡ at + (length bytes + (length old - (at + length bytes)))
+    whole =
+        omega (
+          arith,
+          front,
+          length-append (take at old) (bytes ++ drop (at + length bytes) old),
+          length-append bytes (drop (at + length bytes) old),
+          length-drop (at + length bytes) old,
+        )
 
 -- a stop may leave all that a cut cut
-pub shortened : (n : ℕ) (old : List ℕ) → Shortened n old (take n old)
-shortened n old = record { no_shorter = omega (arith, length-take n old); front = cut n old }
+pub cut_is_shortened : (n : ℕ) (old : List ℕ) → IsShortened n old (take n old)
+cut_is_shortened n old = record { no_shorter = omega (arith, length-take n old); front = cut n old }
   where
     cut : (n : ℕ) (old : List ℕ) → take (length (take n old)) old ≡ take n old
     cut zero old = refl
@@ -68,11 +75,14 @@ shortened n old = record { no_shorter = omega (arith, length-take n old); front 
 -- a call may leave what it shows, and what was synced last
 pub left_state : (w : Work) (end : End) (s : List ℕ × List ℕ) (Old : List ℕ → Type 0) → Old s.0 → Old s.1 → IsInside w s.0
     → Left (call_of w) end s.0 Old (shown_by (call_of w) (bytes_of w) end s.0 s.1) × Left (call_of w) end s.0 Old (synced_by (call_of w) end s.0 s.1)
-left_state (TheVariants.Write at bytes) Passed s Old shown synced fits = ((s.0, shown, written at bytes.items s.0 fits), (s.1, synced, step_same (Write at (length bytes.items)) s.1))
-left_state (TheVariants.Write at bytes) StoppedAfter s Old shown synced fits = ((s.0, shown, written at bytes.items s.0 fits), (s.1, synced, step_same (Write at (length bytes.items)) s.1))
-left_state (TheVariants.Write at bytes) StoppedBefore s Old shown synced fits = ((s.1, synced, step_same (Write at (length bytes.items)) s.1), (s.1, synced, step_same (Write at (length bytes.items)) s.1))
-left_state (TheVariants.Cut size) Passed s Old shown synced fits = ((s.0, shown, shortened size s.0), (s.1, synced, step_same (Cut size) s.1))
-left_state (TheVariants.Cut size) StoppedAfter s Old shown synced fits = ((s.0, shown, shortened size s.0), (s.1, synced, step_same (Cut size) s.1))
+left_state (TheVariants.Write at bytes) Passed s Old shown synced fits =
+    ((s.0, shown, write_is_torn at bytes.items s.0 fits), (s.1, synced, step_same (Write at (length bytes.items)) s.1))
+left_state (TheVariants.Write at bytes) StoppedAfter s Old shown synced fits =
+    ((s.0, shown, write_is_torn at bytes.items s.0 fits), (s.1, synced, step_same (Write at (length bytes.items)) s.1))
+left_state (TheVariants.Write at bytes) StoppedBefore s Old shown synced fits =
+    ((s.1, synced, step_same (Write at (length bytes.items)) s.1), (s.1, synced, step_same (Write at (length bytes.items)) s.1))
+left_state (TheVariants.Cut size) Passed s Old shown synced fits = ((s.0, shown, cut_is_shortened size s.0), (s.1, synced, step_same (Cut size) s.1))
+left_state (TheVariants.Cut size) StoppedAfter s Old shown synced fits = ((s.0, shown, cut_is_shortened size s.0), (s.1, synced, step_same (Cut size) s.1))
 left_state (TheVariants.Cut size) StoppedBefore s Old shown synced fits = ((s.1, synced, step_same (Cut size) s.1), (s.1, synced, step_same (Cut size) s.1))
 left_state TheVariants.Sync Passed s Old shown synced fits = (refl, refl)
 left_state TheVariants.Sync StoppedAfter s Old shown synced fits = ((s.0, shown, refl), (s.1, synced, refl))
@@ -88,9 +98,13 @@ state_left f [] is = (refl, refl)
 state_left f (e ∷ past) is = go (e.file == f) refl (state_left f past is.1)
   where
     go : (b : Bool) → (e.file == f) ≡ b → ImageOf f past (state_of f past).0 × ImageOf f past (state_of f past).1
-        → Choose b (Left (call_of e.work) e.end (state_of f past).0 (λ c. ImageOf f past c) (cond b (state_after e (state_of f past)) (state_of f past)).0) (ImageOf f past (cond b (state_after e (state_of f past)) (state_of f past)).0)
-        × Choose b (Left (call_of e.work) e.end (state_of f past).0 (λ c. ImageOf f past c) (cond b (state_after e (state_of f past)) (state_of f past)).1) (ImageOf f past (cond b (state_after e (state_of f past)) (state_of f past)).1)
-    go true same before = left_state e.work e.end (state_of f past) (λ c. ImageOf f past c) before.0 before.1 (subst (λ (n : ℕ). IsInside e.work (state_of n past).0) (same_file e.file f same) is.0)
+        → Choose b (Left (call_of e.work) e.end (state_of f past).0 (λ c. ImageOf f past c)
+        (cond b (state_after e (state_of f past)) (state_of f past)).0) (ImageOf f past (cond b (state_after e (state_of f past)) (state_of f past)).0)
+        × Choose b (Left (call_of e.work) e.end (state_of f past).0 (λ c. ImageOf f past c)
+        (cond b (state_after e (state_of f past)) (state_of f past)).1) (ImageOf f past (cond b (state_after e (state_of f past)) (state_of f past)).1)
+    go true same before =
+        left_state e.work e.end (state_of f past) (λ c. ImageOf f past c) before.0 before.1
+        (subst (λ (n : ℕ). IsInside e.work (state_of n past).0) (same_file e.file f same) is.0)
     go false same before = before
 
 -- the law of the trait

@@ -1,8 +1,12 @@
-ghost use Rattle.std.specs.Prelude.{◌≡◌, ◌≤◌, ◌<◌, ◌-◌, ◌++◌, ◌∷◌, [], length, MatchResult, List, ℕ, take};
+ghost use Rattle.std.specs.Prelude.{◌≡◌, ◌≤◌, ◌<◌, ◌-◌, ◌++◌, ◌∷◌, []};
+ghost use Rattle.std.specs.Prelude.{length, MatchResult, List, ℕ, take};
 ghost use Rattle.dl_depot.specs.declared.device_call.DeviceCall.TheVariants.{Write, Cut, Sync};
-ghost use Rattle.dl_depot.specs.declared.logged_call.End.TheVariants.{Passed, StoppedBefore, StoppedAfter};
-ghost use Rattle.dl_depot.specs.Device.{put};
-ghost use Rattle.dl_depot.specs.Held.{empty_held, is_refused, after_call, after_fault, end_by, end_of, fuse_after, set_fuse_after, has_stopped, after_work, Becomes, Settles};
+ghost use Rattle.dl_depot.specs.declared.logged_call.End.TheVariants.{Passed, StoppedBefore};
+ghost use Rattle.dl_depot.specs.declared.logged_call.End.TheVariants.{StoppedAfter};
+ghost use Rattle.dl_depot.specs.Device.{with_bytes};
+ghost use Rattle.dl_depot.specs.Held.{empty_held, is_refused, after_call, after_fault};
+ghost use Rattle.dl_depot.specs.Held.{end_by, end_of, fuse_after, set_fuse_after};
+ghost use Rattle.dl_depot.specs.Held.{has_stopped, after_work, Becomes, Settles};
 
 use crate::device_call::DeviceCall;
 use crate::device_fault::DeviceFault;
@@ -30,7 +34,14 @@ impl Model for MemFile {
 
     ghost Value = { Held };
 
-    ghost view = { λ m. record { shown = m.bytes.items; synced = m.synced.items; calls = m.calls.items; fuse = m.fuse; due = m.due; faults = m.faults } };
+    ghost view = { λ m. record {
+      shown = m.bytes.items;
+      synced = m.synced.items;
+      calls = m.calls.items;
+      fuse = m.fuse;
+      due = m.due;
+      faults = m.faults;
+    } };
 
     ghost invariant = { λ m. Agree m.same m.bytes.items m.synced.items };
 }
@@ -39,7 +50,7 @@ impl Model for MemFile {
 fn put_at(old: &mut Vec<u8>, at: usize, bytes: &[u8]) -> Result<(), AllocError>
     requires { at ≤ length old.old.items }
     ensures { MatchResult result
-        (λ _. old.new.items ≡ put at bytes.now old.old.items)
+        (λ _. old.new.items ≡ with_bytes at bytes.now old.old.items)
         (λ _. old.new.items ≡ old.old.items) }
 {
     let over = bytes.len().min(old.len() - at);
@@ -52,7 +63,7 @@ fn put_at(old: &mut Vec<u8>, at: usize, bytes: &[u8]) -> Result<(), AllocError>
 fn overwrite(old: &mut [u8], at: usize, bytes: &[u8])
     requires start { at ≤ length old.old }
     requires end { length bytes.now ≤ length old.old - at }
-    ensures { old.new ≡ put at bytes.now old.old }
+    ensures { old.new ≡ with_bytes at bytes.now old.old }
 {
     let (_, rest) = old.split_at_mut(at);
     rest[..bytes.len()].copy_from_slice(bytes);

@@ -120,7 +120,8 @@ impl Stopper for MemDepot {
     /// Takes the file's fuse away. The number of the call that is to fail stays.
     fn revive(&mut self, file: FileId) -> bool
         ensures revived { Revived (view_by self.old) (view_by self.new) file result }
-        ensures held { Sets self.old self.new file (record (held_by self.old file) { fuse = None }) }
+        ensures held { Sets self.old self.new file
+            (record (held_by self.old file) { fuse = None }) }
     {
         let held = &mut self.files[file.index()];
         let has_stopped = held.has_stopped();

@@ -5,7 +5,9 @@ use Rattle.dl_journal.specs.Batches.{magic, frame_of, spell, InRow, Spells}
 use Rattle.dl_journal.proofs.Bytes.{drop_past, front_of, length-front, split_front, spell-append}
 use Rattle.dl_journal.proofs.OneWay.{body_is}
 
-pub in_place : (bytes : List ℕ) (gate next : ℕ) (before : List Batch) (batch : Batch) (later : List Batch) → InRow gate next before → Spells bytes (before ++ batch ∷ later)
+-- each batch of a journal in a row has its body in the file, behind the gate and the head of its frame
+pub in_place : (bytes : List ℕ) (gate next : ℕ) (before : List Batch) (batch : Batch) (later : List Batch) → InRow gate next before
+    → Spells bytes (before ++ batch ∷ later)
     → take (length batch.body) (drop (gate + 1 + 12) bytes) ≡ batch.body
 in_place bytes gate next before batch later row s =
     let frame = frame_of batch.number batch.body in

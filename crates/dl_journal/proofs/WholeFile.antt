@@ -24,9 +24,13 @@ pub record Reached (a b : View) (file : ℕ) : Type 0 where
   pub told : (calls : List DeviceCall) → a.calls file ≡ Some calls → b.calls file ≡ Some (calls ++ Sync ∷ [])
   pub unset : a.fuse file ≡ Some None → b.fuse file ≡ Some None
 
-pub synced_images : (a m : View) (file : ℕ) (result : Result (Unit {0}) DeviceFault) → Synced a m file result → (t : ℕ) (x : List ℕ) → a.moment ≤ t → t ≤ m.moment → m.image file t x → a.image file a.moment x
-synced_images a m file result s t x from to image = let left = s.writes.images t x from to image in subst (λ (c : List ℕ). a.image file a.moment c) (sym left.2) left.1
+-- at each moment of a sync an image of the file is one from before it
+pub synced_images : (a m : View) (file : ℕ) (result : Result (Unit {0}) DeviceFault) → Synced a m file result → (t : ℕ) (x : List ℕ) → a.moment ≤ t
+    → t ≤ m.moment → m.image file t x → a.image file a.moment x
+synced_images a m file result s t x from to image =
+    let left = s.writes.images t x from to image in subst (λ (c : List ℕ). a.image file a.moment c) (sym left.2) left.1
 
+-- a sync that passed reaches the disk
 pub reached : (a m : View) (file : ℕ) (v : Unit {0}) → Synced a m file (Ok v) → Reached a m file
 reached a m file v s = record {
   keeps = s.writes.keeps;
@@ -39,12 +43,15 @@ reached a m file v s = record {
   unset = s.writes.unset;
 }
 
-looks_images : (a b c : View) (file : ℕ) → Reached a b file → Looks b c file → (t : ℕ) (x : List ℕ) → a.moment ≤ t → t ≤ c.moment → c.image file t x → a.image file a.moment x
+-- at each moment of a look after a sync an image of the file is one from before the sync
+looks_images : (a b c : View) (file : ℕ) → Reached a b file → Looks b c file → (t : ℕ) (x : List ℕ) → a.moment ≤ t → t ≤ c.moment → c.image file t x
+    → a.image file a.moment x
 looks_images a b c file r looks t x from to image = elim (ordered t b.moment) [
   | inl early ↦ r.images t x from early ((looks.keeps.past file t x early).0 image)
   | inr late ↦ r.images b.moment x r.keeps.later (omega arith) ((looks.images t x (omega (arith, late)) to).0 image)
 ]
 
+-- a look that counts no fault keeps what a sync reached
 pub looks_on : (a b c : View) (file : ℕ) → Reached a b file → Looks b c file → c.faults file ≡ b.faults file → Reached a c file
 looks_on a b c file r looks same = record {
   keeps = keeps_trans file a b c r.keeps looks.keeps;
@@ -134,22 +141,24 @@ no_room a m b file size r z most = let on = looks_on a m b file r z.looks z.coun
 }
 
 -- all was read
-pub fetched : (a m n b : View) (file size count : ℕ) (into : List ℕ) (vec : Vec ℕ Global) → Reached a m file → Sized m n file (Ok size) → Read n b file 0 into (Ok count) → length into ≡ size → size ≤ journal_limit → vec.items ≡ take count into → length vec.items ≤ size
+pub fetched : (a m n b : View) (file size count : ℕ) (into : List ℕ) (vec : Vec ℕ Global) → Reached a m file → Sized m n file (Ok size)
+    → Read n b file 0 into (Ok count) → length into ≡ size → size ≤ journal_limit → vec.items ≡ take count into → length vec.items ≤ size
     → Fetched a b file (Ok vec)
-fetched a m n b file size count into vec r z l long most is short = let on = looks_on a n b file (looks_on a m n file r z.looks z.counts.passed) l.looks l.counts.passed in record {
-  reads = record {
-    keeps = on.keeps;
-    images = on.images;
-    counts = on.same_count;
-    calls = record { told = on.told; fronts = λ calls are. (1, on.told calls are); unset = on.unset };
-    too_large = λ k is. absurd (cc is);
-    no_memory = λ is. absurd (cc is);
-  };
-  most = omega (arith, most, short);
-  bytes = λ was shown.
-      let still : n.shown file ≡ Some was = z.looks.same_shown ∙ (r.disk was shown).shown in
-      let given = l.bytes was still in
-      let all : count ≡ length was = omega (arith, given.whole, long, z.size was (r.disk was shown).shown) in
-      (is ∙ given.same ∙ take_all count (drop 0 was) (omega (arith, all)), on.disk was shown);
-  not_damaged = λ at is. cc is;
-}
+fetched a m n b file size count into vec r z l long most is short =
+    let on = looks_on a n b file (looks_on a m n file r z.looks z.counts.passed) l.looks l.counts.passed in record {
+      reads = record {
+        keeps = on.keeps;
+        images = on.images;
+        counts = on.same_count;
+        calls = record { told = on.told; fronts = λ calls are. (1, on.told calls are); unset = on.unset };
+        too_large = λ k is. absurd (cc is);
+        no_memory = λ is. absurd (cc is);
+      };
+      most = omega (arith, most, short);
+      bytes = λ was shown.
+          let still : n.shown file ≡ Some was = z.looks.same_shown ∙ (r.disk was shown).shown in
+          let given = l.bytes was still in
+          let all : count ≡ length was = omega (arith, given.whole, long, z.size was (r.disk was shown).shown) in
+          (is ∙ given.same ∙ take_all count (drop 0 was) (omega (arith, all)), on.disk was shown);
+      not_damaged = λ at is. cc is;
+    }

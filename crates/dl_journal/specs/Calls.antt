@@ -1,7 +1,7 @@
 -- The device calls that work on a journal's file makes, and what a fuse does with them.
 use Rattle.std.specs.Prelude.{◌≡◌, ◌≤◌, ◌<◌, ◌+◌, ℕ, List, [], ◌∷◌, ◌++◌, length, take, Some, None, true, false, Result, Ok, Err, OnOk}
 use Rattle.dl_depot.specs.View.{View, Keeps, LeavesOnly}
-use Rattle.dl_depot.specs.Device.{CountsFault, Torn, put, left_by}
+use Rattle.dl_depot.specs.Device.{CountsFault, IsTorn, with_bytes, left_by}
 use Rattle.dl_depot.specs.declared.device_call.DeviceCall.{DeviceCall}
 use Rattle.dl_depot.specs.declared.device_call.DeviceCall.TheVariants.{Write, Sync}
 use Rattle.dl_depot.specs.declared.device_fault.DeviceFault.{DeviceFault}
@@ -55,11 +55,12 @@ store_calls at bytes = Write at (length bytes) ∷ Sync ∷ []
 -- a write, then a sync
 pub record Stores (old new : View) (file at : ℕ) (bytes : List ℕ) (result : Result (Unit {0}) DeviceFault) : Type 0 where
   pub keeps : Keeps file old new
-  pub images : (t : ℕ) (c : List ℕ) → old.moment ≤ t → t ≤ new.moment → new.image file t c → (d : List ℕ) × old.image file old.moment d × Torn at (length bytes) d c
+  pub images : (t : ℕ) (c : List ℕ) → old.moment ≤ t → t ≤ new.moment → new.image file t c
+      → (d : List ℕ) × old.image file old.moment d × IsTorn at (length bytes) d c
   pub only : OnOk result ((c : List ℕ) → new.image file new.moment c → new.shown file ≡ Some c)
-  pub shown : (was : List ℕ) → old.shown file ≡ Some was → OnOk result (new.shown file ≡ Some (put at bytes was))
+  pub shown : (was : List ℕ) → old.shown file ≡ Some was → OnOk result (new.shown file ≡ Some (with_bytes at bytes was))
   pub last : OnOk result (new.synced file ≡ new.shown file)
   pub counts : CountsFault (old.faults file) (new.faults file) result
   pub calls : MakesCalls old new file (store_calls at bytes) result
   pub spends : (f : Fuse) (was last : List ℕ) → old.fuse file ≡ Some (Some f) → old.shown file ≡ Some was → old.synced file ≡ Some last
-      → Spends old new file (store_calls at bytes) (λ outcome left. new.shown file ≡ Some (left_by outcome (put at bytes was) last)) f result
+      → Spends old new file (store_calls at bytes) (λ outcome left. new.shown file ≡ Some (left_by outcome (with_bytes at bytes was) last)) f result

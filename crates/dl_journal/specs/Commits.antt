@@ -1,5 +1,6 @@
 -- What the calls of a journal do.
-use Rattle.std.specs.Prelude.{◌≡◌, ◌+◌, ◌-◌, ℕ, suc, List, [], ◌∷◌, ◌++◌, length, take, drop, Some, Bool, true, false, cond, nat_le, Result, Ok, Err, OnOk, IsErrOf, IfOk, MatchResult, ◌↔◌}
+use Rattle.std.specs.Prelude.{◌≡◌, ◌+◌, ◌-◌, ℕ, suc, List, [], ◌∷◌, ◌++◌, length, take, drop, Some, Bool, true}
+use Rattle.std.specs.Prelude.{false, cond, nat_le, Result, Ok, Err, OnOk, IsErrOf, IfOk, MatchResult, ◌↔◌}
 use Rattle.dl_depot.specs.View.{View, Keeps, LeavesOnly}
 use Rattle.dl_depot.specs.Device.{Rose, CountsFault}
 use Rattle.dl_depot.specs.declared.device_call.DeviceCall.{DeviceCall}
@@ -15,7 +16,7 @@ use Rattle.dl_journal.specs.Limits.{journal_limit, last_number, head_size, gate_
 use Rattle.dl_journal.specs.State.{JournalState}
 use Rattle.dl_journal.specs.Batches.{magic, InRow, IsJournal, BeforeOrAfter}
 use Rattle.dl_journal.specs.Calls.{MakesCalls, Spends, StaysInLimit, store_calls}
-use Rattle.dl_journal.specs.Settled.{Settled, Stands}
+use Rattle.dl_journal.specs.Settled.{IsSettled, Stands}
 
 -- the body of a frame: all but its head and the gate behind it
 abbrev pub body_of : List ℕ → List ℕ
@@ -60,9 +61,10 @@ CountsCommit before now (Err Failed) = now ≡ before
 pub record Committed (old new : View) (j k : JournalState) (body : List ℕ) (result : Result (Unit {0}) CommitFault) : Type 0 where
   pub keeps : Keeps j.file old new
   -- at each moment each image is a journal of the batches from before, with the new one or without
-  pub any_moment : (bytes : List ℕ) (batches : List Batch) → Settled old j bytes batches → LeavesOnly j.file old new (BeforeOrAfter batches (batch_of j body))
+  pub any_moment : (bytes : List ℕ) (batches : List Batch) → IsSettled old j bytes batches → LeavesOnly j.file old new (BeforeOrAfter batches (batch_of j body))
   -- and then each image has the new one
-  pub ok : (bytes : List ℕ) (batches : List Batch) → Settled old j bytes batches → OnOk result ((now : List ℕ) × Settled new k now (batches ++ batch_of j body ∷ []))
+  pub ok : (bytes : List ℕ) (batches : List Batch) → IsSettled old j bytes batches
+      → OnOk result ((now : List ℕ) × IsSettled new k now (batches ++ batch_of j body ∷ []))
   -- the journal goes on behind the new batch, also where bytes aren't told
   pub in_row : (batches : List Batch) → InRow j.gate j.next batches → OnOk result (InRow k.gate k.next (batches ++ batch_of j body ∷ []))
   pub stands : Stands old j → Stands new k
@@ -72,8 +74,9 @@ pub record Committed (old new : View) (j k : JournalState) (body : List ℕ) (re
   pub counts : CountsCommit (old.faults j.file) (new.faults j.file) result
   pub calls : MakesCalls old new j.file (commit_calls j body) result
   -- where a fuse stops it, the file shows the new batch exactly where its gate was written
-  pub spends : (f : Fuse) (bytes : List ℕ) (batches : List Batch) → old.fuse j.file ≡ Some (Some f) → Settled old j bytes batches
-      → Spends old new j.file (commit_calls j body) (λ outcome left. Shows new j.file (cond (is_gate_open outcome left) (batches ++ batch_of j body ∷ []) batches)) f result
+  pub spends : (f : Fuse) (bytes : List ℕ) (batches : List Batch) → old.fuse j.file ≡ Some (Some f) → IsSettled old j bytes batches
+      → Spends old new j.file (commit_calls j body) (λ outcome left. Shows new j.file
+      (cond (is_gate_open outcome left) (batches ++ batch_of j body ∷ []) batches)) f result
 
 -- the file is empty, where its bytes are told
 abbrev pub IsEmpty : View → ℕ → Type 0
@@ -92,7 +95,7 @@ pub record Made (old new : View) (file : ℕ) (result : Result JournalState Devi
   pub keeps : Keeps file old new
   pub in_limit : StaysInLimit file old new
   pub state : IfOk result (λ j. j ≡ new_journal file)
-  pub settled : (was : List ℕ) → old.shown file ≡ Some was → OnOk result (Settled new (new_journal file) start [])
+  pub settled : (was : List ℕ) → old.shown file ≡ Some was → OnOk result (IsSettled new (new_journal file) start [])
   pub stands : OnOk result (Stands new (new_journal file))
   pub in_row : OnOk result (InRow (length magic) 0 [])
   pub counts : CountsFault (old.faults file) (new.faults file) result

@@ -8,7 +8,7 @@ use Rattle.dl_journal.specs.Limits.{gate_size, head_size}
 use Rattle.dl_journal.specs.Batches.{InRow, Spells, InForce}
 use Rattle.dl_journal.specs.Reading.{Breaks}
 use Rattle.dl_journal.specs.State.{JournalState}
-use Rattle.dl_journal.specs.Settled.{Settled, Stands}
+use Rattle.dl_journal.specs.Settled.{IsSettled, Stands}
 
 -- bytes have one list of batches in force
 abbrev pub OneList : Type 0
@@ -24,12 +24,14 @@ OnePlace = (bytes : List ℕ) (m n : ℕ) → Breaks bytes m → Breaks bytes n 
 
 -- a body stands in the file where `body_place` told it to begin, when the batches before it were in force
 abbrev pub BodyInPlace : Type 0
-BodyInPlace = (bytes : List ℕ) (gate next : ℕ) (before : List Batch) (batch : Batch) (later : List Batch) → InRow gate next before → Spells bytes (before ++ batch ∷ later)
+BodyInPlace =
+    (bytes : List ℕ) (gate next : ℕ) (before : List Batch) (batch : Batch) (later : List Batch) → InRow gate next before
+    → Spells bytes (before ++ batch ∷ later)
     → take (length batch.body) (drop (gate + gate_size + head_size) bytes) ≡ batch.body
 
 -- what a journal stood for it stands for still
 pub record StandsOn (old new : View) (j : JournalState) : Type 0 where
-  pub settled : (bytes : List ℕ) (batches : List Batch) → Settled old j bytes batches → Settled new j bytes batches
+  pub settled : (bytes : List ℕ) (batches : List Batch) → IsSettled old j bytes batches → IsSettled new j bytes batches
   pub stands : Stands old j → Stands new j
 
 -- work on another file leaves a journal as it stands, and so does a fuse that is set on a file or taken away

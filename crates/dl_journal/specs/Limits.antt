@@ -9,10 +9,11 @@ journal_limit = 268435456
 abbrev pub last_number : ℕ
 last_number = 9223372036854775807
 
--- a number, and the length of a body
+-- the bytes of a batch's number in a frame
 abbrev pub number_size : ℕ
 number_size = 8
 
+-- the bytes of a body's length in a frame
 abbrev pub length_size : ℕ
 length_size = 4
 

@@ -11,7 +11,7 @@ use Rattle.dl_journal.specs.Limits.{journal_limit}
 use Rattle.dl_journal.specs.State.{JournalState}
 use Rattle.dl_journal.specs.Batches.{InRow}
 use Rattle.dl_journal.specs.Calls.{MakesCalls}
-use Rattle.dl_journal.specs.Settled.{OnDisk, Settled, Stands}
+use Rattle.dl_journal.specs.Settled.{OnDisk, IsSettled, Stands}
 use Rattle.dl_journal.specs.Reading.{Breaks}
 
 -- only a fault of the device raises the count of faults
@@ -43,7 +43,7 @@ pub record Fetched (old new : View) (file : ℕ) (result : Result (Vec ℕ Globa
 pub record Loaded (old new : View) (file : ℕ) (result : Result (JournalState × Vec Batch Global) LoadFault) : Type 0 where
   pub reads : ReadsFile old new file result
   -- the batches in force, in what is shown and in each image
-  pub ok : (was : List ℕ) → old.shown file ≡ Some was → IfOk result (λ p. Settled new p.0 was p.1.items)
+  pub ok : (was : List ℕ) → old.shown file ≡ Some was → IfOk result (λ p. IsSettled new p.0 was p.1.items)
   -- the journal goes on behind them, also where bytes aren't told
   pub in_row : IfOk result (λ p. InRow p.0.gate p.0.next p.1.items)
   pub same : IfOk result (λ p. p.0.file ≡ file)

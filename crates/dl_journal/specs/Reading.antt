@@ -1,5 +1,6 @@
 -- Where the bytes of a file are no journal, and what reading them gives.
-use Rattle.std.specs.Prelude.{◌≡◌, ◌≢◌, ◌≤◌, ◌<◌, ◌+◌, ◌^◌, ◌⊎◌, ℕ, List, [], ◌∷◌, ◌++◌, length, take, drop, Option, Some, None, Bool, true, false, ◌==◌, ◌&&◌, nat_le, Result, Ok, Err, ⊤}
+use Rattle.std.specs.Prelude.{◌≡◌, ◌≢◌, ◌≤◌, ◌<◌, ◌+◌, ◌^◌, ◌⊎◌, ℕ, List, [], ◌∷◌, ◌++◌, length, take, drop}
+use Rattle.std.specs.Prelude.{Option, Some, None, Bool, true, false, ◌==◌, ◌&&◌, nat_le, Result, Ok, Err, ⊤}
 use Rattle.std.specs.Int.{w32, w64, from_be_bytes}
 use Rattle.dl_journal.specs.declared.batch.Batch.{Batch}
 use Rattle.dl_journal.specs.declared.load_fault.LoadFault.{LoadFault}
@@ -40,27 +41,29 @@ abbrev pub Fault : Option ℕ → List ℕ → ℕ → Type 0
 Fault due more place = (BadNumber due more × (place ≡ 0)) ⊎ (BadLength due more × (place ≡ number_size))
 
 -- behind some batches in a row the gate is missing, or the next batch breaks the layout
-pub record Broken (bytes : List ℕ) (at : ℕ) : Type 0 where
+pub record IsBroken (bytes : List ℕ) (at : ℕ) : Type 0 where
   pub first : ℕ
   pub batches : List Batch
   pub runs : Runs first batches
   pub rest : List ℕ
   pub spelled : bytes ≡ magic ++ (spell batches ++ rest)
-  pub fault : ((rest ≡ []) × (at ≡ length magic + length (spell batches))) ⊎ ((more : List ℕ) × (rest ≡ 1 ∷ more) × ((place : ℕ) × Fault (due_of first batches) more place × (at ≡ length magic + length (spell batches) + gate_size + place)))
+  pub fault : ((rest ≡ []) × (at ≡ length magic + length (spell batches)))
+      ⊎ ((more : List ℕ) × (rest ≡ 1 ∷ more) × ((place : ℕ) × Fault (due_of first batches) more place
+      × (at ≡ length magic + length (spell batches) + gate_size + place)))
 
 -- the first broken part of these bytes begins at this place
 abbrev pub Breaks : List ℕ → ℕ → Type 0
-Breaks bytes at = ((take (length magic) bytes ≢ magic) × (at ≡ 0)) ⊎ Broken bytes at
+Breaks bytes at = ((take (length magic) bytes ≢ magic) × (at ≡ 0)) ⊎ IsBroken bytes at
 
 -- a batch stands behind an open gate
-pub record Framed (due : Option ℕ) (more : List ℕ) (b : Batch) : Type 0 where
+pub record IsFramed (due : Option ℕ) (more : List ℕ) (b : Batch) : Type 0 where
   pub number : is_due due b.number ≡ true
   pub short : length b.body < 2 ^ 32
   pub spelled : more ≡ frame_of b.number b.body ++ drop (head_size + length b.body) more
 
 -- what is read behind an open gate, where the bytes behind it begin at this place
 abbrev pub ReadsBatch : Option ℕ → List ℕ → ℕ → Result Batch LoadFault → Type 0
-ReadsBatch due more at (Ok b) = Framed due more b
+ReadsBatch due more at (Ok b) = IsFramed due more b
 ReadsBatch due more at (Err (Damaged n)) = (place : ℕ) × Fault due more place × (n ≡ at + place)
 ReadsBatch due more at (Err (TooLarge n)) = ⊥
 ReadsBatch due more at (Err Device) = ⊥

@@ -14,7 +14,7 @@ pub record OnDisk (v : View) (file : ℕ) (bytes : List ℕ) : Type 0 where
 
 -- The file shows these bytes, no more than a journal may have; a stop leaves them alone; they hold these batches in
 -- force; and the journal goes on behind them.
-pub record Settled (v : View) (j : JournalState) (bytes : List ℕ) (batches : List Batch) : Type 0 where
+pub record IsSettled (v : View) (j : JournalState) (bytes : List ℕ) (batches : List Batch) : Type 0 where
   pub on_disk : OnDisk v j.file bytes
   pub fits : length bytes ≤ journal_limit
   pub in_row : InRow j.gate j.next batches
@@ -22,4 +22,4 @@ pub record Settled (v : View) (j : JournalState) (bytes : List ℕ) (batches : L
 
 -- where the bytes are told and no commit has failed, the journal stands for batches of its file
 abbrev pub Stands : View → JournalState → Type 0
-Stands v j = j.failed ≡ false → (shown : List ℕ) → v.shown j.file ≡ Some shown → (batches : List Batch) × Settled v j shown batches
+Stands v j = j.failed ≡ false → (shown : List ℕ) → v.shown j.file ≡ Some shown → (batches : List Batch) × IsSettled v j shown batches

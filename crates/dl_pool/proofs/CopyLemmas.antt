@@ -5,10 +5,14 @@ use Rattle.std.proofs.lemmas.List.{length-append, length-take-le, length-drop}
 use Rattle.std.proofs.lemmas.Slice.{take-put_mid}
 use borrow.Rule.Slice.PartMut.{put_mid}
 
-part_fits : (at size : ℕ) (part : List ℕ) (parts rest : List (List ℕ)) → at + length (concat parts) ≡ size → parts ≡ part ∷ rest → at + length part + length (concat rest) ≡ size
+-- the next part and the rest fill what a buffer still lacks
+part_fits : (at size : ℕ) (part : List ℕ) (parts rest : List (List ℕ)) → at + length (concat parts) ≡ size → parts ≡ part ∷ rest
+    → at + length part + length (concat rest) ≡ size
 part_fits at size part parts rest fits is = omega (arith, fits, ap (λ p. length (concat p)) is, length-append part (concat rest))
 
-pub copied_joined : (into copied part total : List ℕ) (parts rest : List (List ℕ)) (at k : ℕ) → take at into ++ concat parts ≡ total → at + length (concat parts) ≡ length into
+-- after the next part is copied, what the buffer holds and the parts left are still the whole piece
+pub copied_joined : (into copied part total : List ℕ) (parts rest : List (List ℕ)) (at k : ℕ) → take at into ++ concat parts ≡ total
+    → at + length (concat parts) ≡ length into
     → parts ≡ part ∷ rest → copied ≡ part → take (at + length part) (put_mid at k into copied) ++ concat rest ≡ total
 copied_joined into copied part total parts rest at k joined fits is same =
     ap (λ front. front ++ concat rest)
@@ -17,6 +21,7 @@ copied_joined into copied part total parts rest at k joined fits is same =
     ∙ ap (λ p. take at into ++ concat p) (sym is)
     ∙ joined
 
+-- after the next part is copied, the parts left still fill the buffer
 pub copied_size : (into copied part : List ℕ) (parts rest : List (List ℕ)) (at k : ℕ) → at + length (concat parts) ≡ length into
     → parts ≡ part ∷ rest → copied ≡ part → k ≡ length part → at + length part + length (concat rest) ≡ length (put_mid at k into copied)
 copied_size into copied part parts rest at k fits is same whole =

@@ -4,6 +4,7 @@ use Rattle.std.proofs.lemmas.List.{nil_from_length}
 use Rattle.dl_pool.specs.Pools.{Held, Adds, bytes_at, pages_of}
 use Rattle.dl_pool.proofs.PageLemmas.{pages_of-zero}
 
+-- to add the empty piece with the span 0 changes nothing
 pub empty_adds : (h : Held) (span : ℕ) (bytes : List ℕ) → span ≡ 0 → length bytes ≡ 0 → Adds h span bytes h
 empty_adds h span bytes none empty = record {
   here = ap (bytes_at h) none ∙ ap Some (sym (nil_from_length bytes empty));

@@ -1,14 +1,16 @@
 -- A piece freed: its last page is linked to the free ones.
-use Rattle.std.proofs.Common.{◌≡◌, ◌≢◌, ℕ, zero, suc, ◌+◌, ◌-◌, ◌<◌, ◌≤◌, cond, Some, List, [], ◌∷◌, ◌++◌, length, set, slice_index, sum_by, refl, sym, ap, ◌∙◌, arith, inl, inr, ◌⊎◌, nat_lt}
+use Rattle.std.proofs.Common.{◌≡◌, ◌≢◌, ℕ, zero, suc, ◌+◌, ◌-◌, ◌<◌, ◌≤◌, cond, Some, List, [], ◌∷◌, ◌++◌, length}
+use Rattle.std.proofs.Common.{set, slice_index, sum_by, refl, sym, ap, ◌∙◌, arith, inl, inr, ◌⊎◌, nat_lt}
 use Rattle.std.specs.List.{concat}
 use Rattle.std.proofs.lemmas.Bool.{cases_lt}
 use Rattle.std.proofs.lemmas.List.{length-set, get_or-set_same, get_or-set_other}
 use Rattle.dl_types.specs.Upto.{upto}
 use Rattle.dl_pool.specs.Pools.{Adds, bytes_at, pages_of}
-use Rattle.dl_pool.specs.Pages.{walk, page_after, times, parts_in, pages_from, piece_from, held, times_used, pages_used, IsSound}
+use Rattle.dl_pool.specs.Pages.{walk, page_after, times, parts_in, pages_from, piece_from, pool_of, times_used, pages_used, IsSound}
 use Rattle.dl_pool.proofs.PageLemmas.{pages_of-zero, pages_of-some}
 use Rattle.dl_pool.proofs.ChainLemmas.{times-append, walk-add, walk_more, walk-set, page_after-set, page_after_more, sum_by-upto-change, stands_in}
-use Rattle.dl_pool.proofs.SoundLemmas.{piece_at, piece_at-some, piece_at-none, bytes_at-held, free_or_used, one_or_other, used_once, used_within, begins_below, length-piece_from, spare-held}
+use Rattle.dl_pool.proofs.SoundLemmas.{piece_at, piece_at-some, piece_at-none, bytes_at-pool_of, free_or_used, one_or_other}
+use Rattle.dl_pool.proofs.SoundLemmas.{used_once, used_within, begins_below, length-piece_from, spare-pool_of}
 
 module _ (m next lengths : List ℕ) (free left : ℕ) (sound : IsSound m next lengths free left) (first : ℕ) (some : 0 < slice_index lengths first) where
   pub below : first < length next
@@ -23,7 +25,8 @@ module _ (m next lengths : List ℕ) (free left : ℕ) (sound : IsSound m next l
 
   last_stands : times last_page (walk next first (pages_of (slice_index lengths first) - 1)) + 1 ≤ times last_page (pages_from next lengths first)
   last_stands =
-      stands_in next first (pages_of (slice_index lengths first) - 1) (pages_of (slice_index lengths first)) (omega (arith, pages_of-some (slice_index lengths first) some))
+      stands_in next first (pages_of (slice_index lengths first) - 1) (pages_of (slice_index lengths first))
+      (omega (arith, pages_of-some (slice_index lengths first) some))
 
   last_once : times last_page (walk next first (pages_of (slice_index lengths first) - 1)) ≡ 0
   last_once = omega (arith, last_stands, used_once m next lengths free left sound last_page first below)
@@ -38,7 +41,8 @@ module _ (m next lengths : List ℕ) (free left : ℕ) (sound : IsSound m next l
   pub links_within : (page : ℕ) → 0 < times page (walk next first (pages_of (slice_index lengths first) - 1)) → page < length next
   links_within page stands = used_within m next lengths free left sound page first below (omega (arith, whole page))
     where
-      whole : (q : ℕ) → times q (pages_from next lengths first) ≡ times q (walk next first (pages_of (slice_index lengths first) - 1)) + times q (last_page ∷ [])
+      whole : (q : ℕ) → times q (pages_from next lengths first)
+          ≡ times q (walk next first (pages_of (slice_index lengths first) - 1)) + times q (last_page ∷ [])
       whole q =
           ap (times q) (ap (walk next first) one_more ∙ walk_more next first (pages_of (slice_index lengths first) - 1))
           ∙ times-append q (walk next first (pages_of (slice_index lengths first) - 1)) (last_page ∷ [])
@@ -80,20 +84,24 @@ module _ (m next lengths : List ℕ) (free left : ℕ) (sound : IsSound m next l
       zero_of : (n : ℕ) → n ≤ 0 → n ≡ 0
       zero_of n h = omega arith
 
-      go : (0 < slice_index lengths p) ⊎ (slice_index lengths p ≤ 0) → walk (set next last_page free) p (pages_of (slice_index lengths p)) ≡ pages_from next lengths p
+      go : (0 < slice_index lengths p) ⊎ (slice_index lengths p ≤ 0)
+          → walk (set next last_page free) p (pages_of (slice_index lengths p)) ≡ pages_from next lengths p
       go (inl used) =
           walk-set next last_page free p (pages_of (slice_index lengths p))
-          (one_or_other m next lengths free left sound last_page first p below (begins_below m next lengths free left sound p used) (λ e. apart (sym e)) (omega (arith, last_stands)))
+          (one_or_other m next lengths free left sound last_page first p below (begins_below m next lengths free left sound p used)
+          (λ e. apart (sym e)) (omega (arith, last_stands)))
       go (inr none) =
           let empty : pages_of (slice_index lengths p) ≡ 0 = ap pages_of (zero_of (slice_index lengths p) none) ∙ pages_of-zero in
           ap (walk (set next last_page free) p) empty ∙ sym (ap (walk next p) empty)
 
-  used_less : (page : ℕ) → times_used (set next last_page free) (set lengths first 0) page + times page (pages_from next lengths first) ≡ times_used next lengths page
+  used_less : (page : ℕ)
+      → times_used (set next last_page free) (set lengths first 0) page + times page (pages_from next lengths first) ≡ times_used next lengths page
   used_less page =
       omega (
         arith,
         ap (λ n. sum_by (λ p. times page (pages_from (set next last_page free) (set lengths first 0) p)) (upto n)) (length-set next last_page free),
-        sum_by-upto-change (λ p. times page (pages_from next lengths p)) (λ p. times page (pages_from (set next last_page free) (set lengths first 0) p)) (length next) first below
+        sum_by-upto-change (λ p. times page (pages_from next lengths p))
+            (λ p. times page (pages_from (set next last_page free) (set lengths first 0) p)) (length next) first below
             (λ p low apart. ap (times page) (pages_other p apart)),
         ap (λ n. times page (walk (set next last_page free) first n)) (ap pages_of length_here ∙ pages_of-zero),
       )
@@ -117,7 +125,8 @@ module _ (m next lengths : List ℕ) (free left : ℕ) (sound : IsSound m next l
         ∙ count_moves left _ _ _ _ pages_less sound.counted
         ∙ sym (length-set next last_page free);
     once = λ page.
-        sum_moves _ _ _ _ _ _ (ap (times page) joined ∙ times-append page (pages_from next lengths first) (walk next free left)) (used_less page) (sound.once page)
+        sum_moves _ _ _ _ _ _ (ap (times page) joined ∙ times-append page (pages_from next lengths first) (walk next free left)) (used_less page)
+        (sound.once page)
         ∙ ap (λ n. cond (nat_lt page n) 1 0) (sym (length-set next last_page free));
   }
     where
@@ -127,24 +136,25 @@ module _ (m next lengths : List ℕ) (free left : ℕ) (sound : IsSound m next l
       sum_moves : (all here rest used' used one : ℕ) → all ≡ here + rest → used' + here ≡ used → rest + used ≡ one → all + used' ≡ one
       sum_moves all here rest used' used one a b c = omega arith
 
-  pub free_adds : Adds (held m (set next last_page free) (set lengths first 0)) (suc first) (piece_from m next lengths first) (held m next lengths)
+  pub free_adds : Adds (pool_of m (set next last_page free) (set lengths first 0)) (suc first) (piece_from m next lengths first) (pool_of m next lengths)
   free_adds = record {
-    here = bytes_at-held m next lengths first sound.lengths_length ∙ piece_at-some m next lengths first some;
+    here = bytes_at-pool_of m next lengths first sound.lengths_length ∙ piece_at-some m next lengths first some;
     fresh = λ _.
-        bytes_at-held m (set next last_page free) (set lengths first 0) first free_sound.lengths_length
+        bytes_at-pool_of m (set next last_page free) (set lengths first 0) first free_sound.lengths_length
         ∙ piece_at-none m (set next last_page free) (set lengths first 0) first length_here;
     others = other;
     pages = sym (length-set next last_page free);
     room =
         omega (
           arith,
-          spare-held m next lengths free left sound,
-          spare-held m (set next last_page free) (set lengths first 0) first (left + pages_of (slice_index lengths first)) free_sound,
+          spare-pool_of m next lengths free left sound,
+          spare-pool_of m (set next last_page free) (set lengths first 0) first (left + pages_of (slice_index lengths first)) free_sound,
           ap pages_of (length-piece_from m next lengths free left sound first below),
         );
   }
     where
-      stays : (p : ℕ) → p ≢ first → (0 < slice_index lengths p) ⊎ (slice_index lengths p ≤ 0) → piece_at m (set next last_page free) (set lengths first 0) p ≡ piece_at m next lengths p
+      stays : (p : ℕ) → p ≢ first → (0 < slice_index lengths p) ⊎ (slice_index lengths p ≤ 0)
+          → piece_at m (set next last_page free) (set lengths first 0) p ≡ piece_at m next lengths p
       stays p apart (inr none) =
           piece_at-none m (set next last_page free) (set lengths first 0) p (omega (arith, length_other p apart))
           ∙ sym (piece_at-none m next lengths p (omega arith))
@@ -155,9 +165,9 @@ module _ (m next lengths : List ℕ) (free left : ℕ) (sound : IsSound m next l
           ∙ ap (λ n. concat (parts_in m (pages_from next lengths p) n)) (length_other p apart))
           ∙ sym (piece_at-some m next lengths p used)
 
-      other : (span : ℕ) → span ≢ suc first → bytes_at (held m next lengths) span ≡ bytes_at (held m (set next last_page free) (set lengths first 0)) span
+      other : (span : ℕ) → span ≢ suc first → bytes_at (pool_of m next lengths) span ≡ bytes_at (pool_of m (set next last_page free) (set lengths first 0)) span
       other zero apart = refl
       other (suc p) apart =
-          bytes_at-held m next lengths p sound.lengths_length
+          bytes_at-pool_of m next lengths p sound.lengths_length
           ∙ sym (stays p (λ e. apart (ap suc e)) (cases_lt 0 (slice_index lengths p)))
-          ∙ sym (bytes_at-held m (set next last_page free) (set lengths first 0) p free_sound.lengths_length)
+          ∙ sym (bytes_at-pool_of m (set next last_page free) (set lengths first 0) p free_sound.lengths_length)

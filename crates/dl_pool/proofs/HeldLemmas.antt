@@ -3,6 +3,7 @@ use Rattle.std.proofs.Common.{◌≡◌, ◌≢◌, ℕ, ◌<◌, List, Option, 
 use Rattle.std.proofs.lemmas.Bool.{cases_eq}
 use Rattle.dl_pool.specs.Pools.{Held, Adds, bytes_at, IsLive}
 
+-- a span that has bytes is live
 pub some_is_live : (o : Option (List ℕ)) (bytes : List ℕ) → o ≡ Some bytes → IsSome o
 some_is_live o bytes is = subst (λ x. IsSome x) (sym is) refl
 

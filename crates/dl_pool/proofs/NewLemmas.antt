@@ -1,20 +1,23 @@
 -- A new pool: one chain of all pages, and no piece.
-use Rattle.std.proofs.Common.{◌≡◌, ℕ, zero, suc, ◌+◌, ◌^◌, ◌<◌, ◌≤◌, cond, ◌==◌, List, [], ◌∷◌, ◌++◌, length, slice_index, sum_by, refl, sym, ap, ◌∙◌, arith, inl, inr, ◌⊎◌, nat_lt, eq-eqb}
+use Rattle.std.proofs.Common.{◌≡◌, ℕ, zero, suc, ◌+◌, ◌^◌, ◌<◌, ◌≤◌, cond, ◌==◌, List, [], ◌∷◌, ◌++◌, length}
+use Rattle.std.proofs.Common.{slice_index, sum_by, refl, sym, ap, ◌∙◌, arith, inl, inr, ◌⊎◌, nat_lt, eq-eqb}
 use Rattle.std.specs.List.{flat_map}
 use Rattle.std.proofs.lemmas.Bool.{cases_lt, cond-true, cond-false, lt-ltb, le-ltb}
 use Rattle.std.proofs.lemmas.List.{append-nil}
 use Rattle.std.proofs.lemmas.List.Concat.{flat_map-append}
 use Rattle.std.proofs.lemmas.List.Sums.{sum_by_push}
 use Rattle.dl_types.specs.Upto.{upto}
-use Rattle.dl_pool.specs.Pools.{Held, nothing_held, pages_of}
-use Rattle.dl_pool.specs.Pages.{walk, times, pages_from, pair_at, held, times_used, IsSound}
+use Rattle.dl_pool.specs.Pools.{Held, empty_pool, pages_of}
+use Rattle.dl_pool.specs.Pages.{walk, times, pages_from, pair_at, pool_of, times_used, IsSound}
 use Rattle.dl_pool.proofs.PageLemmas.{pages_of-zero}
 use Rattle.dl_pool.proofs.ChainLemmas.{times-head, times-tail}
 
+-- a sum of nothings is nothing
 sum_by-upto-none : (f : ℕ → ℕ) (n : ℕ) → ((k : ℕ) → f k ≡ 0) → sum_by f (upto n) ≡ 0
 sum_by-upto-none f zero none = refl
 sum_by-upto-none f (suc n) none = omega (arith, sum_by_push f (upto n) n, sum_by-upto-none f n none, none n)
 
+-- empty lists in a row are empty
 flat_map-upto-none : (f : ℕ → List (ℕ × List ℕ)) (n : ℕ) → ((k : ℕ) → f k ≡ []) → flat_map f (upto n) ≡ []
 flat_map-upto-none f zero none = refl
 flat_map-upto-none f (suc n) none =
@@ -41,7 +44,8 @@ module _ (next : List ℕ) (pages : ℕ) (rises : (k : ℕ) → k < pages → sl
   times_inside page first (suc count) within from to =
       ap (λ p. times page (first ∷ walk next p count)) (rises first (omega arith)) ∙ go (cases_lt first page) (times_inside page (first + 1) count)
     where
-      go : (first < page) ⊎ (page ≤ first) → (first + 1 + count ≤ pages → first + 1 ≤ page → page < first + 1 + count → times page (walk next (first + 1) count) ≡ 1)
+      go : (first < page) ⊎ (page ≤ first) → (first + 1 + count ≤ pages → first + 1 ≤ page → page < first + 1 + count
+          → times page (walk next (first + 1) count) ≡ 1)
           → times page (first ∷ walk next (first + 1) count) ≡ 1
       go (inl later) rest =
           times-tail page first (walk next (first + 1) count) (λ e. omega arith) ∙ rest (omega arith) (omega arith) (omega arith)
@@ -68,14 +72,15 @@ module _ (next : List ℕ) (pages : ℕ) (rises : (k : ℕ) → k < pages → sl
     }
       where
         go : (page : ℕ) → (page < pages) ⊎ (pages ≤ page) → times page (walk next 0 pages) ≡ cond (nat_lt page pages) 1 0
-        go page (inl below) = times_inside page 0 pages (omega arith) (omega arith) (omega arith) ∙ sym (cond-true {A = ℕ} (nat_lt page pages) 1 0 (lt-ltb page pages below))
+        go page (inl below) =
+            times_inside page 0 pages (omega arith) (omega arith) (omega arith) ∙ sym (cond-true {A = ℕ} (nat_lt page pages) 1 0 (lt-ltb page pages below))
         go page (inr past) = times_after page 0 pages (omega arith) (omega arith) ∙ sym (cond-false {A = ℕ} (nat_lt page pages) 1 0 (le-ltb page pages past))
 
         plus_none : (n : ℕ) → n + 0 ≡ n
         plus_none n = omega arith
 
-    pub new_held : held m next lengths ≡ nothing_held pages
-    new_held =
+    pub new_pool : pool_of m next lengths ≡ empty_pool pages
+    new_pool =
         ap (λ live. made (length next) live) (flat_map-upto-none (λ k. pair_at m next lengths k) (length next) empty)
         ∙ ap (λ n. made n []) whole
       where

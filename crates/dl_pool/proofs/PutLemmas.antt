@@ -1,9 +1,10 @@
 -- What `put` leaves, as the code has it: the memory that was filled, along the links that it read.
-use Rattle.std.proofs.Common.{◌≡◌, ℕ, ◌+◌, ◌-◌, ◌<◌, ◌≤◌, Bool, false, ◌==◌, List, length, set, sym, ap, ◌∙◌, subst, add-one, arith, inl, inr, ◌⊎◌, eq-eqb, true≢false}
+use Rattle.std.proofs.Common.{◌≡◌, ℕ, ◌+◌, ◌-◌, ◌<◌, ◌≤◌, Bool, false, ◌==◌, List, length, set, sym}
+use Rattle.std.proofs.Common.{ap, ◌∙◌, subst, add-one, arith, inl, inr, ◌⊎◌, eq-eqb, true≢false}
 use Rattle.std.specs.List.{concat}
 use Rattle.std.proofs.lemmas.Bool.{cases_lt}
 use Rattle.dl_pool.specs.Pools.{Held, Adds, pages_of}
-use Rattle.dl_pool.specs.Pages.{held, walk, page_after, parts_in, times, HasPages, WritesPages, IsSound}
+use Rattle.dl_pool.specs.Pages.{pool_of, walk, page_after, parts_in, times, HasPages, WritesPages, IsSound}
 use Rattle.dl_pool.proofs.SoundLemmas.{chain_once, chain_within, first_below, put_sound, put_adds}
 
 -- a piece that is not empty, and for which there are pages
@@ -13,7 +14,9 @@ pub record HasRoom (m next lengths : List ℕ) (free left : ℕ) (bytes : List �
   pub need : needed ≡ pages_of (length bytes)
   pub enough : pages_of (length bytes) ≤ left
 
-pub has_room : (m next lengths : List ℕ) (free left : ℕ) (bytes : List ℕ) (needed : ℕ) → IsSound m next lengths free left → (t : Bool) → t ≡ (length bytes == 0) → t ≡ false
+-- a sound pool with as many spare pages as some bytes need has room for them
+pub has_room : (m next lengths : List ℕ) (free left : ℕ) (bytes : List ℕ) (needed : ℕ) → IsSound m next lengths free left → (t : Bool)
+    → t ≡ (length bytes == 0) → t ≡ false
     → needed ≡ pages_of (length bytes) → needed ≤ left → HasRoom m next lengths free left bytes needed
 has_room m next lengths free left bytes needed sound t is full need enough = record {
   sound = sound;
@@ -56,10 +59,11 @@ module _ (m next lengths : List ℕ) (free left : ℕ) (bytes : List ℕ) (neede
           (subst (λ k. IsSound w next (set lengths free (length bytes)) (page_after next free (pages_of (length bytes))) (left - k)) (sym r.need)
           (put_sound m next lengths free left r.sound w bytes r.some r.enough pages_next writes_next))
 
-      pub filled_adds : (h : Held) (span : ℕ) → held m next lengths ≡ h → span ≡ free + 1 → concat (parts_in w (walk links free (pages_of (length bytes))) (length bytes)) ≡ bytes
-          → Adds h span bytes (held w next (set lengths free (length bytes)))
+      pub filled_adds : (h : Held) (span : ℕ) → pool_of m next lengths ≡ h → span ≡ free + 1
+          → concat (parts_in w (walk links free (pages_of (length bytes))) (length bytes)) ≡ bytes
+          → Adds h span bytes (pool_of w next (set lengths free (length bytes)))
       filled_adds h span view number here =
-          subst (λ x. Adds x span bytes (held w next (set lengths free (length bytes)))) view
-          (subst (λ n. Adds (held m next lengths) n bytes (held w next (set lengths free (length bytes)))) (sym (number ∙ add-one free))
+          subst (λ x. Adds x span bytes (pool_of w next (set lengths free (length bytes)))) view
+          (subst (λ n. Adds (pool_of m next lengths) n bytes (pool_of w next (set lengths free (length bytes)))) (sym (number ∙ add-one free))
           (put_adds m next lengths free left r.sound w bytes r.some r.enough pages_next writes_next
           (ap (λ n. concat (parts_in w (walk n free (pages_of (length bytes))) (length bytes))) (sym same_links) ∙ here)))

@@ -1,6 +1,7 @@
 -- How a pool keeps its pieces: each page names the page after it, a piece is a chain of pages from its first one on, and the
 -- free pages are a chain too.
-use Rattle.std.specs.Prelude.{◌≡◌, ℕ, zero, suc, ◌+◌, ◌-◌, ◌*◌, ◌<◌, ◌≤◌, ◌^◌, min, List, [], ◌∷◌, length, sum_by, count_by, take, drop, ◌==◌, nat_lt, if◌then◌else◌, slice_index}
+use Rattle.std.specs.Prelude.{◌≡◌, ℕ, zero, suc, ◌+◌, ◌-◌, ◌*◌, ◌<◌, ◌≤◌, ◌^◌, min, List, [], ◌∷◌, length}
+use Rattle.std.specs.Prelude.{sum_by, count_by, take, drop, ◌==◌, nat_lt, if◌then◌else◌, slice_index}
 use Rattle.std.specs.List.{concat, flat_map}
 use Rattle.dl_types.specs.Upto.{upto}
 use Rattle.dl_pool.specs.Pools.{Held, pages_of}
@@ -55,8 +56,8 @@ pair_at memory next lengths first =
     if slice_index lengths first == 0 then [] else (suc first, piece_from memory next lengths first) ∷ []
 
 -- what a pool with these tables holds
-abbrev pub held : List ℕ → List ℕ → List ℕ → Held
-held memory next lengths = record { pages = length next; live = flat_map (λ first. pair_at memory next lengths first) (upto (length next)) }
+abbrev pub pool_of : List ℕ → List ℕ → List ℕ → Held
+pool_of memory next lengths = record { pages = length next; live = flat_map (λ first. pair_at memory next lengths first) (upto (length next)) }
 
 -- how often a page stands in the chains of all pieces
 abbrev pub times_used : List ℕ → List ℕ → ℕ → ℕ

@@ -12,8 +12,8 @@ pub record Held : Type 0 where
   pub live : List (ℕ × List ℕ)
 
 -- a pool without a piece
-abbrev pub nothing_held : ℕ → Held
-nothing_held pages = record { pages = pages; live = [] }
+abbrev pub empty_pool : ℕ → Held
+empty_pool pages = record { pages = pages; live = [] }
 
 -- the bytes that a list of pairs has for a span
 abbrev pub look_up : List (ℕ × List ℕ) → ℕ → Option (List ℕ)

@@ -1,7 +1,9 @@
-ghost use Rattle.std.specs.Prelude.{◌≡◌, ◌≢◌, ℕ, ◌+◌, ◌*◌, ◌<◌, ◌≤◌, [], ◌∷◌, length, take, drop, vec_capacity};
+ghost use Rattle.std.specs.Prelude.{◌≡◌, ◌≢◌, ℕ, ◌+◌, ◌*◌, ◌<◌, ◌≤◌, []};
+ghost use Rattle.std.specs.Prelude.{◌∷◌, length, take, drop, vec_capacity};
 ghost use Rattle.dl_pool.specs.Pools.{pages_of};
 ghost use Rattle.std.specs.List.{concat};
-ghost use Rattle.dl_pool.specs.Pages.{page_bytes, walk, page_after, times, parts_in, HasPage, HasPages, WritesPages};
+ghost use Rattle.dl_pool.specs.Pages.{page_bytes, walk, page_after, times};
+ghost use Rattle.dl_pool.specs.Pages.{parts_in, HasPage, HasPages, WritesPages};
 
 /// How many bytes a page has.
 pub const PAGE: usize = 4096;
@@ -45,7 +47,8 @@ fn overwrite_page(memory: &mut [u8], page: u32, part: &[u8])
     requires part { length part.now ≤ 4096 }
     requires page { HasPage memory.old page }
     ensures here { take (length part.now) (drop (page * 4096) memory.new) ≡ part.now }
-    ensures others { (other : ℕ) → other ≢ page → page_bytes memory.new other ≡ page_bytes memory.old other }
+    ensures others { (other : ℕ) → other ≢ page
+        → page_bytes memory.new other ≡ page_bytes memory.old other }
 {
     let start = page as usize * PAGE;
     memory[start..start + part.len()].copy_from_slice(part);
@@ -66,12 +69,17 @@ pub fn read_page(memory: &[u8], page: u32, count: usize) -> &[u8]
 #[tactic(auto, unfolding(crate::specs::Pools::pages_of))]
 pub fn fill(memory: &mut Vec<u8>, next: &[u32], first: u32, bytes: &[u8]) -> u32
     requires room { length next.now * 4096 ≤ vec_capacity memory.old }
-    requires within { (page : ℕ) → 0 < times page (walk next.now first (pages_of (length bytes.now))) → page < length next.now }
-    requires once { (page : ℕ) → times page (walk next.now first (pages_of (length bytes.now))) ≤ 1 }
+    requires within { (page : ℕ) →
+        0 < times page (walk next.now first (pages_of (length bytes.now)))
+        → page < length next.now }
+    requires once { (page : ℕ)
+        → times page (walk next.now first (pages_of (length bytes.now))) ≤ 1 }
     ensures after { result ≡ page_after next.now first (pages_of (length bytes.now)) }
-    ensures here { concat (parts_in memory.new.items (walk next.now first (pages_of (length bytes.now))) (length bytes.now)) ≡ bytes.now }
+    ensures here { let chain = walk next.now first (pages_of (length bytes.now)) in
+        concat (parts_in memory.new.items chain (length bytes.now)) ≡ bytes.now }
     ensures pages { HasPages memory.new.items (walk next.now first (pages_of (length bytes.now))) }
-    ensures writes { WritesPages memory.old.items memory.new.items (walk next.now first (pages_of (length bytes.now))) }
+    ensures writes { WritesPages memory.old.items memory.new.items
+        (walk next.now first (pages_of (length bytes.now))) }
     ensures capacity { vec_capacity memory.old ≤ vec_capacity memory.new }
 {
     let mut page = first;

@@ -32,7 +32,8 @@ impl<'a> Parts<'a> {
     /// The parts of so many bytes that begin at this page.
     pub(crate) fn new(memory: &'a [u8], links: &'a [u32], page: u32, left: usize) -> Parts<'a>
         requires { IsReadable memory.now links.now page left }
-        ensures { result ≡ parts_in memory.entry.now (walk links.entry.now page (pages_of left)) left }
+        ensures { result
+            ≡ parts_in memory.entry.now (walk links.entry.now page (pages_of left)) left }
     {
         Parts {
             memory,

@@ -1,7 +1,8 @@
-ghost use Rattle.std.specs.Prelude.{◌≡◌, ◌↔◌, ◌<◌, ◌+◌, ℕ, List, slice_index, IfOk, OnErr, IsErr, Some, length};
+ghost use Rattle.std.specs.Prelude.{◌≡◌, ◌↔◌, ◌<◌, ◌+◌, ℕ, List, slice_index};
+ghost use Rattle.std.specs.Prelude.{IfOk, OnErr, IsErr, Some, length};
 ghost use Rattle.std.specs.List.{concat};
 ghost use Rattle.std.specs.Option.{ForSome};
-ghost use Rattle.dl_pool.specs.Pools.{nothing_held, bytes_at, spare, pages_of, IsLive, Adds};
+ghost use Rattle.dl_pool.specs.Pools.{empty_pool, bytes_at, spare, pages_of, IsLive, Adds};
 
 use crate::pages::{PAGE, fill, follow, pages_of};
 use crate::parts::Parts;
@@ -32,13 +33,14 @@ pub struct Pool {
 impl Model for Pool {
     ghost use Rattle.std.specs.Prelude.{vec_capacity};
     ghost use Rattle.dl_pool.specs.Pools.{Held};
-    ghost use Rattle.dl_pool.specs.Pages.{held, IsKept};
+    ghost use Rattle.dl_pool.specs.Pages.{pool_of, IsKept};
 
     ghost Value = { Held };
 
-    ghost view = { λ p. held p.memory.items p.next.items p.lengths.items };
+    ghost view = { λ p. pool_of p.memory.items p.next.items p.lengths.items };
 
-    ghost invariant = { λ p. IsKept p.memory.items (vec_capacity p.memory) p.next.items p.lengths.items p.free p.spare };
+    ghost invariant = { λ p.
+        IsKept p.memory.items (vec_capacity p.memory) p.next.items p.lengths.items p.free p.spare };
 }
 
 /// The numbers from 1 on, so many.
@@ -56,7 +58,7 @@ fn numbers_from_one(alloc: Global, count: u32) -> Result<Vec<u32>, AllocError>
 impl Pool {
     /// A pool of so many free pages. No other call of a pool takes memory.
     pub fn new(alloc: Global, pages: u32) -> Result<Pool, NoMemory>
-        ensures { IfOk result (λ p. p ≡ nothing_held pages) }
+        ensures { IfOk result (λ p. p ≡ empty_pool pages) }
     {
         let memory = Vec::with_capacity(alloc, pages as usize * PAGE)?;
         let next = numbers_from_one(alloc, pages)?;
@@ -113,7 +115,8 @@ impl Pool {
     /// Copies a piece out.
     pub fn copy_out(&self, span: &Span, into: &mut [u8])
         requires live { IsLive self.now span.now }
-        requires size { ForSome (bytes_at self.now span.now) (λ bytes. length bytes ≡ length into.old) }
+        requires size { ForSome (bytes_at self.now span.now)
+            (λ bytes. length bytes ≡ length into.old) }
         ensures { bytes_at self.now span.now ≡ Some into.new }
     {
         let mut at = 0;
@@ -126,7 +129,8 @@ impl Pool {
     /// Frees a piece: its pages are free again, and no other piece changes. This is `put` undone.
     pub fn free(&mut self, span: Span)
         requires { IsLive self.old span }
-        ensures { (bytes : List ℕ) → bytes_at self.old span ≡ Some bytes → Adds self.new span bytes self.old }
+        ensures { (bytes : List ℕ) → bytes_at self.old span ≡ Some bytes
+            → Adds self.new span bytes self.old }
     {
         let number = span.number();
         if number == 0 {

@@ -14,26 +14,32 @@ use Rattle.dl_quorum.proofs.WriteSetLemmas.{write_set-is}
 abbrev pub first_places : Sizes → ℕ → ℕ → List ℕ
 first_places q entry i = map (λ k. write_place q entry k) (upto i)
 
+-- what passes counts one
 one_if : (b : Bool) → b ≡ true → cond {A = ℕ} b 1 0 ≡ 1
 one_if b t = cond-true {A = ℕ} b 1 0 t
 
+-- what fails counts nothing
 none_if : (b : Bool) → b ≡ false → cond {A = ℕ} b 1 0 ≡ 0
 none_if b t = cond-false {A = ℕ} b 1 0 t
 
 -- a place that is in the set counts one
-pub counted_yes : (q : Sizes) (entry i n m place : ℕ) (p : ℕ → Bool) → n ≡ count_by p (first_places q entry i) → place ≡ write_place q entry i → p place ≡ true → m ≡ n + 1 → m ≡ count_by p (first_places q entry (i + 1))
+pub counted_yes : (q : Sizes) (entry i n m place : ℕ) (p : ℕ → Bool) → n ≡ count_by p (first_places q entry i) → place ≡ write_place q entry i
+    → p place ≡ true → m ≡ n + 1 → m ≡ count_by p (first_places q entry (i + 1))
 counted_yes q entry i n m place p h at t e =
     omega (arith, count_by-map-upto_more p (λ k. write_place q entry k) i, one_if (p (write_place q entry i)) (ap p (sym at) ∙ t))
 
 -- a place that isn't counts nothing
-pub counted_no : (q : Sizes) (entry i n m place : ℕ) (p : ℕ → Bool) → n ≡ count_by p (first_places q entry i) → place ≡ write_place q entry i → p place ≡ false → m ≡ n → m ≡ count_by p (first_places q entry (i + 1))
+pub counted_no : (q : Sizes) (entry i n m place : ℕ) (p : ℕ → Bool) → n ≡ count_by p (first_places q entry i) → place ≡ write_place q entry i
+    → p place ≡ false → m ≡ n → m ≡ count_by p (first_places q entry (i + 1))
 counted_no q entry i n m place p h at t e =
     omega (arith, count_by-map-upto_more p (λ k. write_place q entry k) i, none_if (p (write_place q entry i)) (ap p (sym at) ∙ t))
 
+-- a fact or what never holds is the fact
 or_false : (b : Bool) → (b || false) ≡ b
 or_false true = refl
 or_false false = refl
 
+-- either of two facts, in either order
 or_comm : (a b : Bool) → (a || b) ≡ (b || a)
 or_comm true true = refl
 or_comm true false = refl
@@ -41,7 +47,8 @@ or_comm false true = refl
 or_comm false false = refl
 
 -- one place more
-pub held_more : (q : Sizes) (entry i place : ℕ) → list_any (λ member. member == place) (first_places q entry (i + 1)) ≡ (write_place q entry i == place || list_any (λ member. member == place) (first_places q entry i))
+pub held_more : (q : Sizes) (entry i place : ℕ) → list_any (λ member. member == place) (first_places q entry (i + 1))
+    ≡ (write_place q entry i == place || list_any (λ member. member == place) (first_places q entry i))
 held_more q entry i place =
     ap (λ n. list_any (λ member. member == place) (first_places q entry n)) (add-one i)
     ∙ ap (list_any (λ member. member == place)) (map-append (λ k. write_place q entry k) (upto i) (i ∷ []))

@@ -1,5 +1,6 @@
 -- Write sets on places: their members differ, an ack quorum and a denial meet, a cover denies each write set.
-use Rattle.std.proofs.Common.{◌≡◌, ◌≢◌, ℕ, ◌+◌, ◌-◌, ◌%◌, ◌<◌, ◌≤◌, Bool, true, ◌&&◌, List, [], ◌∷◌, map, length, get_or, count_by, refl, sym, ap, ◌∙◌, subst, arith, inl, inr, ◌⊎◌, leb, leb-true, le-leb, mod-lt}
+use Rattle.std.proofs.Common.{◌≡◌, ◌≢◌, ℕ, ◌+◌, ◌-◌, ◌%◌, ◌<◌, ◌≤◌, Bool, true, ◌&&◌, List, [], ◌∷◌, map, length, get_or}
+use Rattle.std.proofs.Common.{count_by, refl, sym, ap, ◌∙◌, subst, arith, inl, inr, ◌⊎◌, leb, leb-true, le-leb, mod-lt}
 use Rattle.std.proofs.Math.Nat.{mod-add-mod, mod-eq_of_lt, mod-eq-sub-mod}
 use Rattle.std.proofs.lemmas.Bool.{cases_lt}
 use Rattle.std.proofs.lemmas.List.{length-map}
@@ -10,10 +11,12 @@ use Rattle.dl_quorum.specs.WriteSets.{write_place, write_set, is_acked, is_block
 use Rattle.dl_types.proofs.UptoLemmas.{length-upto, get_or-map-upto, list_all-upto}
 use Rattle.dl_quorum.proofs.CountLemmas.{count_by-mono, list_any_shared}
 
+-- a write set is its qw places in order
 pub write_set-is : (q : Sizes) (entry : ℕ) → write_set q entry ≡ map (λ i. write_place q entry i) (upto q.qw)
 unfolding write_set
 write_set-is q entry = refl
 
+-- a write set has qw places
 pub length-write_set : (q : Sizes) (entry : ℕ) → length (write_set q entry) ≡ q.qw
 unfolding write_set
 length-write_set q entry = length-map (upto q.qw) _ ∙ length-upto q.qw
@@ -47,20 +50,27 @@ write_set-distinct q entry rule i j d before within =
     λ same. places_differ entry q.e i j before (omega (arith, rule.writes_within)) (sym (at i (omega arith)) ∙ same ∙ at j inside)
 
 -- an ack quorum and a denial of the same qw members share one of them
-pub acked_meets_blocked : (q : Sizes) (acked denied : ℕ → Bool) (members : List ℕ) → AreSizes q → length members ≡ q.qw → is_acked q acked members ≡ true → is_blocked q denied members ≡ true → list_any (λ member. acked member && denied member) members ≡ true
+pub acked_meets_blocked : (q : Sizes) (acked denied : ℕ → Bool) (members : List ℕ) → AreSizes q → length members ≡ q.qw
+    → is_acked q acked members ≡ true → is_blocked q denied members ≡ true → list_any (λ member. acked member && denied member) members ≡ true
 acked_meets_blocked q acked denied members rule all a b =
     list_any_shared acked denied members (omega (arith, leb-true _ _ a, leb-true _ _ b, rule.acks_within))
 
-pub is_acked-mono : (q : Sizes) (p r : ℕ → Bool) (members : List ℕ) → ((b : ℕ) → p b ≡ true → r b ≡ true) → is_acked q p members ≡ true → is_acked q r members ≡ true
+-- an entry that some bookies acknowledge is acknowledged by any set that holds them
+pub is_acked-mono : (q : Sizes) (p r : ℕ → Bool) (members : List ℕ) → ((b : ℕ) → p b ≡ true → r b ≡ true) → is_acked q p members ≡ true
+    → is_acked q r members ≡ true
 is_acked-mono q p r members h a = le-leb _ _ (omega (arith, leb-true _ _ a, count_by-mono p r h members))
 
-pub is_blocked-mono : (q : Sizes) (p r : ℕ → Bool) (members : List ℕ) → ((b : ℕ) → p b ≡ true → r b ≡ true) → is_blocked q p members ≡ true → is_blocked q r members ≡ true
+-- a larger set of bookies blocks what a smaller one blocks
+pub is_blocked-mono : (q : Sizes) (p r : ℕ → Bool) (members : List ℕ) → ((b : ℕ) → p b ≡ true → r b ≡ true) → is_blocked q p members ≡ true
+    → is_blocked q r members ≡ true
 is_blocked-mono q p r members h a = le-leb _ _ (omega (arith, leb-true _ _ a, count_by-mono p r h members))
 
 -- an ack quorum and a denial of one write set share a place
-pub quorums_meet : (q : Sizes) (entry : ℕ) (acked denied : ℕ → Bool) → AreSizes q → confirms q entry acked ≡ true → denies q entry denied ≡ true → list_any (λ place. acked place && denied place) (write_set q entry) ≡ true
+pub quorums_meet : (q : Sizes) (entry : ℕ) (acked denied : ℕ → Bool) → AreSizes q → confirms q entry acked ≡ true → denies q entry denied ≡ true
+    → list_any (λ place. acked place && denied place) (write_set q entry) ≡ true
 quorums_meet q entry acked denied rule a b = acked_meets_blocked q acked denied (write_set q entry) rule (length-write_set q entry) a b
 
+-- two functions that agree on each number have the same images of a list
 map_agree : (f g : ℕ → ℕ) → ((x : ℕ) → f x ≡ g x) → (xs : List ℕ) → map f xs ≡ map g xs
 map_agree f g h [] = refl
 map_agree f g h (x ∷ xs) = ap (λ y. y ∷ map f xs) (h x) ∙ ap (λ ys. g x ∷ ys) (map_agree f g h xs)

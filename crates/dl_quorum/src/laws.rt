@@ -1,6 +1,8 @@
 //! What recovery rests on, of the placement of entries. Each function is empty: its clause is the law.
 
-ghost use Rattle.dl_quorum.specs.Laws.{HasWriteQuorum, PlacesDiffer, AcksMeetDenials, CoversDenyAll, CountsOnlyMembers, BookiesMeet, LaterPiecesKeep, CoversBlockAll, CoversArePlaces};
+ghost use Rattle.dl_quorum.specs.Laws.{HasWriteQuorum, PlacesDiffer, AcksMeetDenials};
+ghost use Rattle.dl_quorum.specs.Laws.{CoversDenyAll, CountsOnlyMembers, BookiesMeet};
+ghost use Rattle.dl_quorum.specs.Laws.{LaterPiecesKeep, CoversBlockAll, CoversArePlaces};
 
 /// A write set has `qw` places, and they differ.
 pub fn write_set_places_differ()

@@ -1,6 +1,7 @@
 ghost use Rattle.std.specs.Prelude.{◌≡◌, ℕ, ◌<◌, ◌≤◌, ◌==◌, count_by, length, IfSome, IfNone};
 ghost use Rattle.std.specs.List.{list_any};
-ghost use Rattle.dl_quorum.specs.WriteSets.{write_place, write_set, confirms, denies, covers_places};
+ghost use Rattle.dl_quorum.specs.WriteSets.{write_place, write_set, confirms};
+ghost use Rattle.dl_quorum.specs.WriteSets.{denies, covers_places};
 ghost use Rattle.dl_quorum.specs.Places.{holds, IsPlaceOf};
 ghost use Rattle.dl_quorum.specs.Sizes.{sizes_of};
 
@@ -33,7 +34,8 @@ pub fn place_of(members: &[u8], bookie: u8) -> Option<u8>
 
 /// The places of an entry's copies.
 pub fn write_set(q: Quorum, entry: u64) -> PlaceSet
-    ensures { (place : ℕ) → holds result place ≡ list_any (λ member. member == place) (write_set (sizes_of q) entry) }
+    ensures { (place : ℕ) →
+        holds result place ≡ list_any (λ member. member == place) (write_set (sizes_of q) entry) }
 {
     let mut set = PlaceSet::empty();
     for i in 0..q.qw {

@@ -8,7 +8,8 @@ bind_ok (Ok x) f y e = (x, refl, e)
 bind_ok (Err d) f y e = absurd cc
 
 -- Where a reading of two has a fault, it is that of the first that has one.
-pub bind_err : {A B F : Type 0} (r : Result A F) (f : A → Result B F) (fault : F) → (r >>= f) ≡ Err fault → (r ≡ Err fault) ⊎ ((x : A) × (r ≡ Ok x) × (f x ≡ Err fault))
+pub bind_err : {A B F : Type 0} (r : Result A F) (f : A → Result B F) (fault : F) → (r >>= f) ≡ Err fault
+    → (r ≡ Err fault) ⊎ ((x : A) × (r ≡ Ok x) × (f x ≡ Err fault))
 bind_err (Ok x) f fault e = inr (x, refl, e)
 bind_err (Err d) f fault e = inl cc
 

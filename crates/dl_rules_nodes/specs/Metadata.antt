@@ -15,7 +15,7 @@ use Rattle.dl_msg.specs.declared.meta_reply.MetaReply.TheVariants as reply
 use Rattle.dl_tree.specs.Trees.{Nodes, root_alone, new_node, after_request, without_session}
 use Rattle.dl_session.specs.declared.admit.Admit.{Admit}
 use Rattle.dl_session.specs.declared.admit.Admit.TheVariants as admit
-use Rattle.dl_session.specs.Sessions.{Known, none_known, after_connect, after_expiry, after_run, number_in, admission}
+use Rattle.dl_session.specs.Sessions.{Known, no_sessions, after_connect, after_expiry, after_run, number_in, admission}
 use Rattle.dl_formats.specs.declared.conf.Conf as conf
 use Rattle.dl_formats.specs.Keys.{Key, Conf, Streams, Ledgers, path_of}
 use Rattle.dl_formats.specs.NodeBytes.{conf_bytes}
@@ -29,7 +29,7 @@ pub record Meta : Type 0 where
 
 -- before any item
 abbrev pub nothing : Meta
-nothing = record { tree = root_alone; sessions = none_known }
+nothing = record { tree = root_alone; sessions = no_sessions }
 
 -- a tree with a lasting node more
 abbrev pub with_node : Nodes → Key → List ℕ → Nodes

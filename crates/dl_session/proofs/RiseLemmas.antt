@@ -1,5 +1,6 @@
 -- Lists in rising order, and sessions beside their numbers.
-use Rattle.std.proofs.Common.{◌≡◌, ℕ, zero, suc, ◌+◌, ◌<◌, ◌≤◌, Bool, true, false, cond, not, ◌==◌, List, [], ◌∷◌, ◌++◌, length, map, filter, get_or, set, Option, Some, None, Err, All, refl, sym, ap, ◌∙◌, subst, ap₂, arith, eq-eqb, length-append}
+use Rattle.std.proofs.Common.{◌≡◌, ℕ, zero, suc, ◌+◌, ◌<◌, ◌≤◌, Bool, true, false, cond, not, ◌==◌, List, [], ◌∷◌, ◌++◌, length, map, filter}
+use Rattle.std.proofs.Common.{get_or, set, Option, Some, None, Err, All, refl, sym, ap, ◌∙◌, subst, ap₂, arith, eq-eqb, length-append}
 use Rattle.std.proofs.lemmas.Bool.{ne_eqb, cond-true, cond-false}
 use Rattle.std.specs.List.{remove}
 use Rattle.std.specs.List.Sorted.{IsBinarySearchResult, IsStrictlyIncreasing}
@@ -17,6 +18,7 @@ rises_above low high [] i d r h = absurd (omega arith)
 rises_above low high (x ∷ xs) zero d r h = r.0
 rises_above low high (x ∷ xs) (suc i) d r h = omega (arith, r.0, rises_above x high xs i d r.1 (omega arith))
 
+-- where numbers rise between two bounds, the low one is at most the high one
 rises_bounds : (low high : ℕ) (xs : List ℕ) → Rises low high xs → low ≤ high
 rises_bounds low high [] r = r
 rises_bounds low high (x ∷ xs) r = omega (arith, r.0, rises_bounds x high xs r.1)
@@ -42,6 +44,7 @@ rises_order low high (x ∷ xs) (suc i) zero d r l h = absurd (omega arith)
 rises_order low high (x ∷ xs) zero (suc j) d r l h = omega (arith, rises_above x high xs j d r.1 (omega arith))
 rises_order low high (x ∷ xs) (suc i) (suc j) d r l h = rises_order x high xs i j d r.1 (omega arith) (omega arith)
 
+-- numbers that rise from a bound rise from any lower one too
 rises_from : (low low' high : ℕ) (xs : List ℕ) → low' ≤ low → Rises low high xs → Rises low' high xs
 rises_from low low' high [] l r = omega (arith, l, r)
 rises_from low low' high (x ∷ xs) l r = (omega (arith, l, r.0), r.1)
@@ -57,11 +60,13 @@ rises_less low high [] i r h = absurd (omega arith)
 rises_less low high (x ∷ xs) zero r h = rises_from x low high xs (omega (arith, r.0)) r.1
 rises_less low high (x ∷ xs) (suc i) r h = (r.0, rises_less x high xs i r.1 (omega arith))
 
+-- the sessions of sessions beside their numbers are those sessions
 pub ids-beside : (xs ns : List ℕ) → length ns ≡ length xs → ids (beside xs ns) ≡ xs
 ids-beside [] ns h = refl
 ids-beside (x ∷ xs) [] h = absurd (omega arith)
 ids-beside (x ∷ xs) (n ∷ ns) h = ap (λ (t : List ℕ). x ∷ t) (ids-beside xs ns (omega arith))
 
+-- one more session with its number, on each side, is one more live session at the end
 pub beside-more : (xs ns : List ℕ) (x n : ℕ) → length ns ≡ length xs
     → beside (xs ++ x ∷ []) (ns ++ n ∷ []) ≡ beside xs ns ++ (record { session = x; number = n }) ∷ []
 beside-more [] [] x n h = refl
@@ -73,20 +78,25 @@ beside-more (y ∷ xs) (m ∷ ns) x n h = ap (λ (t : List Live). (record { sess
 abbrev pub IsNone : List ℕ → ℕ → Type 0
 IsNone xs k = (j : ℕ) → j < length xs → get_or xs j 0 ≡ k → ⊥
 
+-- a bound that numbers rise above is none of them
 none_above : (x high : ℕ) (xs : List ℕ) (k : ℕ) → x ≡ k → Rises x high xs → IsNone xs k
 none_above x high xs k e r j h same = absurd (omega (arith, e, same, rises_above x high xs j 0 r h))
 
+-- what is none of a list is not its first member
 none_here : (x : ℕ) (xs : List ℕ) (k : ℕ) → IsNone (x ∷ xs) k → (x == k) ≡ false
 none_here x xs k none = ne_eqb x k (none zero (omega arith))
 
+-- what is none of a list is none of the rest
 none_later : (x : ℕ) (xs : List ℕ) (k : ℕ) → IsNone (x ∷ xs) k → IsNone xs k
 none_later x xs k none j h = none (suc j) (omega arith)
 
+-- a session that is none of the live ones has no number
 pub number_none : (xs ns : List ℕ) (k : ℕ) → IsNone xs k → number_in (beside xs ns) k ≡ None
 number_none [] ns k none = refl
 number_none (x ∷ xs) [] k none = refl
 number_none (x ∷ xs) (n ∷ ns) k none = cond-false _ _ _ (none_here x xs k none) ∙ number_none xs ns k (none_later x xs k none)
 
+-- the session at a place has the number at the same place
 pub number_at : (low high : ℕ) (xs ns : List ℕ) (i k : ℕ) → Rises low high xs → length ns ≡ length xs → i < length xs → get_or xs i 0 ≡ k
     → number_in (beside xs ns) k ≡ Some (get_or ns i 0)
 number_at low high [] ns i k r same h e = absurd (omega arith)
@@ -100,20 +110,24 @@ number_at low high (x ∷ xs) (n ∷ ns) (suc i) k r same h e =
 abbrev pub others : ℕ → List Live → List Live
 others k live = filter (λ (x : Live). not (x.session == k)) live
 
+-- a choice by what fails, turned round, is the first
 not_same : {A : Type 0} (b : Bool) (x y : A) → b ≡ false → cond (not b) x y ≡ x
 not_same true x y e = absurd (cc)
 not_same false x y e = refl
 
+-- a choice by what holds, turned round, is the second
 not_other : {A : Type 0} (b : Bool) (x y : A) → b ≡ true → cond (not b) x y ≡ y
 not_other true x y e = refl
 not_other false x y e = absurd (cc)
 
+-- without a session that is none of them the live sessions are the same
 pub others_none : (xs ns : List ℕ) (k : ℕ) → IsNone xs k → others k (beside xs ns) ≡ beside xs ns
 others_none [] ns k none = refl
 others_none (x ∷ xs) [] k none = refl
 others_none (x ∷ xs) (n ∷ ns) k none =
     not_same _ _ _ (none_here x xs k none) ∙ ap (λ (t : List Live). (record { session = x; number = n }) ∷ t) (others_none xs ns k (none_later x xs k none))
 
+-- without the session at a place both lists lose the member at that place
 pub others_at : (low high : ℕ) (xs ns : List ℕ) (i k : ℕ) → Rises low high xs → length ns ≡ length xs → i < length xs → get_or xs i 0 ≡ k
     → others k (beside xs ns) ≡ beside (remove xs i) (remove ns i)
 others_at low high [] ns i k r same h e = absurd (omega arith)
@@ -123,6 +137,7 @@ others_at low high (x ∷ xs) (n ∷ ns) (suc i) k r same h e =
     not_same _ _ _ (ne_eqb x k (λ w. absurd (omega (arith, w, e, rises_above x high xs i 0 r.1 (omega arith)))))
     ∙ ap (λ (t : List Live). (record { session = x; number = n }) ∷ t) (others_at x high xs ns i k r.1 (omega arith) (omega arith) e)
 
+-- a number that runs in none of the live sessions changes nothing
 ran_none : (xs ns : List ℕ) (k m : ℕ) → IsNone xs k → map (with_number k m) (beside xs ns) ≡ beside xs ns
 ran_none [] ns k m none = refl
 ran_none (x ∷ xs) [] k m none = refl
@@ -131,6 +146,7 @@ ran_none (x ∷ xs) (n ∷ ns) k m none =
     let later = ran_none xs ns k m (none_later x xs k none) in
     λ i. here i ∷ later i
 
+-- a number that runs in the session at a place is the number at that place
 pub ran_at : (low high : ℕ) (xs ns : List ℕ) (i k m : ℕ) → Rises low high xs → length ns ≡ length xs → i < length xs → get_or xs i 0 ≡ k
     → map (with_number k m) (beside xs ns) ≡ beside xs (set ns i m)
 ran_at low high [] ns i k m r same h e = absurd (omega arith)
@@ -145,6 +161,7 @@ ran_at low high (x ∷ xs) (n ∷ ns) (suc i) k m r same h e =
     let later = ran_at x high xs ns i k m r.1 (omega arith) (omega arith) e in
     λ i. here i ∷ later i
 
+-- what is above all members before a place and below all from it on is none of them
 apart : (a x i k : ℕ) → (k < i → a < x) → (i ≤ k → x < a) → a ≡ x → ⊥
 apart a x i k below above e = grind arith
 
@@ -159,9 +176,11 @@ pub record IsKept (last : ℕ) (xs ns : List ℕ) : Type 0 where
   pub rises : Rises 0 last xs
   pub same : length ns ≡ length xs
 
+-- the sessions that these tables keep: the last one given, and the live ones beside their numbers
 abbrev pub known : ℕ → List ℕ → List ℕ → Known
 known last xs ns = record { last = last; live = beside xs ns }
 
+-- one more session, above the last, keeps the tables in rising order and of one length
 pub keeps_more : (last : ℕ) (xs ns ys ms : List ℕ) (n : ℕ) → IsKept last xs ns → ys ≡ xs ++ (last + 1) ∷ [] → ms ≡ ns ++ n ∷ []
     → Rises 0 (last + 1) ys × (length ms ≡ length ys)
 keeps_more last xs ns ys ms n k e f = (
@@ -169,6 +188,7 @@ keeps_more last xs ns ys ms n k e f = (
   rw (e, f) (omega (arith, k.same, length-append xs ((last + 1) ∷ []), length-append ns (n ∷ []))),
 )
 
+-- tables with one more session, above the last and with the number 0, keep the sessions after a connection
 pub known-connected : (last : ℕ) (xs ns ys ms : List ℕ) (s : Known) → IsKept last xs ns → known last xs ns ≡ s → ys ≡ xs ++ (last + 1) ∷ [] → ms ≡ ns ++ 0 ∷ []
     → (last + 1 ≡ s.last + 1) × (known (last + 1) ys ms ≡ after_connect s)
 unfolding after_connect
@@ -178,6 +198,7 @@ known-connected last xs ns ys ms s k is e f = (
       ∙ ap after_connect is,
 )
 
+-- one session fewer keeps the tables in rising order and of one length
 pub keeps_fewer : (last : ℕ) (xs ns ys ms : List ℕ) (i : ℕ) → IsKept last xs ns → i < length xs → ys ≡ remove xs i → ms ≡ remove ns i
     → Rises 0 last ys × (length ms ≡ length ys)
 keeps_fewer last xs ns ys ms i k h e f = (
@@ -185,6 +206,7 @@ keeps_fewer last xs ns ys ms i k h e f = (
   rw (e, f) (omega (arith, k.same, length-remove xs i h, length-remove ns i (omega (arith, h, k.same)))),
 )
 
+-- tables without the session at a place keep the sessions after its expiry
 pub known-expired : (last : ℕ) (xs ns ys ms : List ℕ) (i session : ℕ) (s : Known) → IsKept last xs ns → known last xs ns ≡ s → i < length xs
     → get_or xs i 0 ≡ session → ys ≡ remove xs i → ms ≡ remove ns i → known last ys ms ≡ after_expiry s session
 unfolding after_expiry
@@ -193,11 +215,13 @@ known-expired last xs ns ys ms i session s k is h at e f =
     ∙ ap (λ (t : List Live). record { last = last; live = t }) (sym (others_at 0 last xs ns i session k.rises k.same h at))
     ∙ ap (λ (t : Known). after_expiry t session) is
 
+-- the expiry of a session that is not live changes nothing
 pub known-expired_none : (last : ℕ) (xs ns : List ℕ) (session : ℕ) (s : Known) → known last xs ns ≡ s → IsNone xs session → s ≡ after_expiry s session
 unfolding after_expiry
 known-expired_none last xs ns session s is none =
     sym is ∙ ap (λ (t : List Live). record { last = last; live = t }) (sym (others_none xs ns session none)) ∙ ap (λ (t : Known). after_expiry t session) is
 
+-- tables with a number at a session's place keep the sessions after that number ran in it
 pub known-ran : (last : ℕ) (xs ns : List ℕ) (i session number : ℕ) (s : Known) → IsKept last xs ns → known last xs ns ≡ s → i < length xs
     → get_or xs i 0 ≡ session → known last xs (set ns i number) ≡ after_run s session number
 unfolding after_run
@@ -210,6 +234,7 @@ pub known-number : (last : ℕ) (xs ns : List ℕ) (i session : ℕ) (s : Known)
     → number_in s.live session ≡ Some (get_or ns i 0)
 known-number last xs ns i session s k is h at = ap (λ (t : Known). number_in t.live session) (sym is) ∙ number_at 0 last xs ns i session k.rises k.same h at
 
+-- a session that the tables lack has no number
 pub known-none : (last : ℕ) (xs ns : List ℕ) (session : ℕ) (s : Known) → known last xs ns ≡ s → IsNone xs session → number_in s.live session ≡ None
 known-none last xs ns session s is none = ap (λ (t : Known). number_in t.live session) (sym is) ∙ number_none xs ns session none
 
@@ -218,21 +243,27 @@ pub record IsAt (xs : List ℕ) (i session : ℕ) : Type 0 where
   pub within : i < length xs
   pub is : get_or xs i 0 ≡ session
 
+-- a session that stands at a place of a list stands there in an equal list
 pub found_in : (xs ys : List ℕ) (i session : ℕ) → xs ≡ ys → (i < length xs) × (get_or xs i 0 ≡ session) → IsAt ys i session
 found_in xs ys i session e h = subst (λ (t : List ℕ). IsAt t i session) e (record { within = h.0; is = h.1 })
 
+-- what is none of a list is none of an equal list
 pub none_in : (xs ys : List ℕ) (session : ℕ) → xs ≡ ys → IsNone xs session → IsNone ys session
 none_in xs ys session e h = subst (λ (t : List ℕ). IsNone t session) e h
 
+-- the table of sessions has the live ones
 pub known-live : (last : ℕ) (xs ns : List ℕ) (s : Known) → IsKept last xs ns → known last xs ns ≡ s → xs ≡ ids s.live
 known-live last xs ns s k is = sym (ids-beside xs ns k.same) ∙ ap (λ (t : Known). ids t.live) is
 
+-- the last session that the tables keep is the last one given
 pub known-last : (last : ℕ) (xs ns : List ℕ) (s : Known) → known last xs ns ≡ s → last ≡ s.last
 known-last last xs ns s is = ap (λ (t : Known). t.last) is
 
+-- numbers that rise are strictly increasing
 pub increasing : (last : ℕ) (xs : List ℕ) → Rises 0 last xs → IsStrictlyIncreasing xs
 increasing last xs r k h = rises_between 0 last xs k (k + 1) 0 r (omega arith) h
 
+-- no live session is above the last one given
 pub all_given : (last : ℕ) (xs : List ℕ) → Rises 0 last xs → All (λ x. x ≤ last) xs
 all_given last xs r k d h = rises_below 0 last xs k d r h
 

@@ -14,8 +14,8 @@ pub record Known : Type 0 where
   pub live : List Live
 
 -- no session was given
-abbrev pub none_known : Known
-none_known = record { last = 0; live = [] }
+abbrev pub no_sessions : Known
+no_sessions = record { last = 0; live = [] }
 
 -- the live sessions
 abbrev pub ids : List Live → List ℕ

@@ -1,6 +1,8 @@
-ghost use Rattle.std.specs.Prelude.{◌≡◌, ℕ, ◌+◌, ◌-◌, ◌<◌, ◌≤◌, ◌≢◌, ◌^◌, IfOk, OnErr, All, MatchOption, Some, length, slice_index, IsTrue};
+ghost use Rattle.std.specs.Prelude.{◌≡◌, ℕ, ◌+◌, ◌-◌, ◌<◌, ◌≤◌, ◌≢◌, ◌^◌, IfOk, OnErr};
+ghost use Rattle.std.specs.Prelude.{All, MatchOption, Some, length, slice_index, IsTrue};
 ghost use Rattle.std.specs.List.Sorted.{IsStrictlyIncreasing};
-ghost use Rattle.dl_session.specs.Sessions.{none_known, after_connect, after_expiry, after_run, ids, number_in, is_live, admission};
+ghost use Rattle.dl_session.specs.Sessions.{no_sessions, after_connect, after_expiry};
+ghost use Rattle.dl_session.specs.Sessions.{after_run, ids, number_in, is_live, admission};
 ghost use Rattle.dl_session.specs.Rises.{Rises};
 
 use crate::admit::Admit;
@@ -46,7 +48,7 @@ fn place(sessions: &[u64], session: u64) -> Option<usize>
 impl Sessions {
     /// No session was given.
     pub fn new(alloc: Global) -> Result<Sessions, NoMemory>
-        ensures { IfOk result (λ s. s ≡ none_known) }
+        ensures { IfOk result (λ s. s ≡ no_sessions) }
     {
         Ok(Sessions {
             last: 0,

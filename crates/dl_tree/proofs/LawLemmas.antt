@@ -1,5 +1,6 @@
 -- The laws of requests on the tree.
-use Rattle.std.proofs.Common.{◌≡◌, ℕ, ◌+◌, ◌≤◌, Bool, true, false, cond, not, List, [], ◌∷◌, Option, Some, None, Ok, Err, refl, sym, ap, ◌∙◌, subst, arith, inl, inr, ◌⊎◌}
+use Rattle.std.proofs.Common.{◌≡◌, ℕ, ◌+◌, ◌≤◌, Bool, true, false, cond, not, List, [], ◌∷◌, Option}
+use Rattle.std.proofs.Common.{Some, None, Ok, Err, refl, sym, ap, ◌∙◌, subst, arith, inl, inr, ◌⊎◌}
 use Rattle.std.proofs.lemmas.Bool.{cond-true, cond-false, cases_Bool, ne_eqb}
 use Rattle.std.proofs.lemmas.Option.{same_Some, none-some}
 use Rattle.std.proofs.lemmas.Map.Lookups.{exact_bytes}
@@ -15,26 +16,31 @@ use Rattle.dl_types.specs.declared.meta_answer.MetaAnswer.TheVariants as answer
 use Rattle.dl_types.specs.declared.why.Why.{Why}
 use Rattle.dl_tree.specs.declared.node.Node.{Node}
 use Rattle.dl_tree.specs.Paths.{parent_of}
-use Rattle.dl_tree.specs.Trees.{Nodes, Outcome, Run, outcome_of, run_of, after_request, after_one, after_all, then_rest, with_front, is_owner, is_owned, without_session, made_path, parent_after, new_node, owner_of, is_counted}
+use Rattle.dl_tree.specs.Trees.{Nodes, Outcome, Run, outcome_of, run_of, after_request, after_one, after_all, then_rest, with_front}
+use Rattle.dl_tree.specs.Trees.{is_owner, is_owned, without_session, made_path, parent_after, new_node, owner_of, is_counted}
 use Rattle.dl_tree.specs.Slots.{with_node}
 use Rattle.dl_tree.specs.Laws.{set_node, OwnsNone}
 use Rattle.dl_tree.proofs.MapLemmas.{same_path, path_is, get-with_node, get-with_node_same, get-with_node_other}
 use Rattle.dl_tree.proofs.Done.{set_done, IsCreated, create_done, delete_done, check_done, get_done, children_done}
 
+-- a request of one operation that fails leaves the tree
 one_whole : (t : Nodes) (r : Outcome) (place : ℕ) (why : Why) → (after_one t r).0 ≡ answer.Failed place why → (after_one t r).1 ≡ t
 one_whole t (Ok r) place why e = absurd (cc)
 one_whole t (Err w) place why e = refl
 
+-- a request of many operations that fails leaves the tree
 all_whole : (t : Nodes) (r : Run) (place : ℕ) (why : Why) → (after_all t r).0 ≡ answer.Failed place why → (after_all t r).1 ≡ t
 all_whole t (Ok r) place why e = absurd (cc)
 all_whole t (Err w) place why e = refl
 
+-- a request that fails leaves the tree
 pub whole : (t : Nodes) (session place : ℕ) (x : MetaOp) (why : Why) → (after_request t session x).0 ≡ answer.Failed place why
     → (after_request t session x).1 ≡ t
 unfolding after_request
 whole t session place (op.One x) why e = one_whole t (outcome_of t session x) place why e
 whole t session place (op.Multi ops) why e = all_whole t (run_of t session 0 ops) place why e
 
+-- a set that is done raises the version of its node by one, and changes no other node
 pub set_law : (t : Nodes) (session : ℕ) (path bytes : List ℕ) (version : Option ℕ) (r : OneAnswer × Nodes)
     → outcome_of t session (Set path bytes version) ≡ Ok r
     → (n : Node) × (get t path ≡ Some n) × (get r.1 path ≡ Some (set_node bytes n)) × ((q : List ℕ) → (q ≡ path → ⊥) → get r.1 q ≡ get t q)
@@ -50,6 +56,7 @@ set_law t session path bytes version r e =
 abbrev pub IsLater : Node → Node → Type 0
 IsLater n m = (m.owner ≡ n.owner) × (n.version ≤ m.version) × (n.counter ≤ m.counter)
 
+-- a node that stays is as it was
 later_same : (t : Nodes) (q : List ℕ) (n m : Node) → get t q ≡ Some n → get t q ≡ Some m → IsLater n m
 later_same t q n m a b = subst (λ (x : Node). IsLater n x) (same_Some n m (sym a ∙ b)) (refl, omega arith, omega arith)
 
@@ -64,10 +71,12 @@ later_put t p x q n m there a b = go (cases_Bool (same_path q p))
         subst (λ (y : Node). IsLater n y) is (there n (ap (get t) (sym (path_is q p e)) ∙ a))
     go (inr e) = later_same t q n m a (sym (cond-false _ _ _ e) ∙ sym (get-with_node t p (Some x) q) ∙ b)
 
+-- a counter that may rise by one doesn't fall
 counter_later : (b : Bool) (c : ℕ) → c ≤ cond b (c + 1) c
 counter_later true c = omega arith
 counter_later false c = omega arith
 
+-- a creation that is done leaves each node as it was or later
 later_created : (t : Nodes) (session : ℕ) (path bytes : List ℕ) (mode : Mode) (r : OneAnswer × Nodes) (q : List ℕ) (n m : Node)
     → IsCreated t session path bytes mode r → get t q ≡ Some n → get r.1 q ≡ Some m → IsLater n m
 later_created t session path bytes mode r q n m d a b =
@@ -88,6 +97,7 @@ later_created t session path bytes mode r q n m d a b =
     go made u end (inl e) free = absurd (none-some n (sym (ap (get t) (path_is q made e) ∙ free) ∙ a))
     go made u end (inr e) free = first m (sym (cond-false _ _ _ e) ∙ sym (get-with_node _ made (Some (new_node bytes mode session)) q) ∙ end)
 
+-- a node that a tree without a path has, the tree has too
 removed_is : (t : Nodes) (p q : List ℕ) (m : Node) → get (with_node t p None) q ≡ Some m → get t q ≡ Some m
 removed_is t p q m e = go (cases_Bool (same_path q p))
   where
@@ -95,6 +105,7 @@ removed_is t p q m e = go (cases_Bool (same_path q p))
     go (inl w) = absurd (none-some m (sym (get-with_node t p None q ∙ cond-true _ _ _ w) ∙ e))
     go (inr w) = sym (get-with_node t p None q ∙ cond-false _ _ _ w) ∙ e
 
+-- an operation that is done leaves each node that stays as it was or later
 pub owner_law : (t : Nodes) (session : ℕ) (x : OneOp) (r : OneAnswer × Nodes) (q : List ℕ) (n m : Node) → outcome_of t session x ≡ Ok r → get t q ≡ Some n
     → get r.1 q ≡ Some m → IsLater n m
 owner_law t session (Create path bytes mode) r q n m e a b = later_created t session path bytes mode r q n m (create_done t session path bytes mode r e) a b
@@ -117,12 +128,14 @@ put_owns_none t k p o none fresh q = ap (is_owned k) (get-with_node t p o q) ∙
     go true = fresh
     go false = none q
 
+-- the owner of a node that a session makes is no other session
 new_is_other : (k session : ℕ) (mode : Mode) → (k ≡ session → ⊥) → is_owner k (owner_of mode session) ≡ false
 new_is_other k session Lasting apart = refl
 new_is_other k session Ephemeral apart = ne_eqb session k (λ e. apart (sym e))
 new_is_other k session Counted apart = refl
 new_is_other k session EphemeralCounted apart = ne_eqb session k (λ e. apart (sym e))
 
+-- an operation of another session leaves a session that owns no node without one
 one_owns_none : (t : Nodes) (k session : ℕ) (x : OneOp) (r : OneAnswer × Nodes) → (k ≡ session → ⊥) → OwnsNone t k → outcome_of t session x ≡ Ok r
     → OwnsNone r.1 k
 one_owns_none t k session (Create path bytes mode) r apart none e =
@@ -147,11 +160,13 @@ abbrev pub left : Nodes → Run → Nodes
 left t (Ok r) = r.1
 left t (Err e) = t
 
+-- an answer before a run's answers changes nothing of what a session owns after the run
 left-front : (t : Nodes) (a : OneAnswer) (r : Run) (k : ℕ) → OwnsNone t k → ((u : Nodes) → OwnsNone u k → OwnsNone (left u r) k)
     → OwnsNone (left t (with_front a r)) k
 left-front t a (Ok r) k none ih = ih t none
 left-front t a (Err e) k none ih = none
 
+-- a run of another session leaves a session that owns no node without one
 all_owns_none : (t : Nodes) (k session place : ℕ) (xs : List OneOp) → (k ≡ session → ⊥) → OwnsNone t k → (u : Nodes) → OwnsNone u k
     → OwnsNone (left u (run_of t session place xs)) k
 unfolding run_of
@@ -165,36 +180,44 @@ all_owns_none t k session place (x ∷ xs) apart none u old =
     go (Err why) e ih = old
     go (Ok r) e ih = left-front u r.0 (run_of r.1 session (place + 1) xs) k old (ih r.1 (one_owns_none t k session x r apart none e))
 
+-- a request of one operation of another session leaves a session that owns no node without one
 after_one_owns_none : (t : Nodes) (k session : ℕ) (x : OneOp) (o : Outcome) → outcome_of t session x ≡ o → (k ≡ session → ⊥) → OwnsNone t k
     → OwnsNone (after_one t o).1 k
 after_one_owns_none t k session x (Ok r) e apart none = one_owns_none t k session x r apart none e
 after_one_owns_none t k session x (Err why) e apart none = none
 
+-- a request of many operations leaves a session without nodes if its run does
 after_all_owns_none : (t : Nodes) (k : ℕ) (r : Run) → OwnsNone (left t r) k → OwnsNone (after_all t r).1 k
 after_all_owns_none t k (Ok r) none = none
 after_all_owns_none t k (Err e) none = none
 
+-- a request of another session leaves a session that owns no node without one
 pub request_owns_none : (t : Nodes) (k session : ℕ) (x : MetaOp) → (k ≡ session → ⊥) → OwnsNone t k → OwnsNone (after_request t session x).1 k
 unfolding after_request
 request_owns_none t k session (op.One x) apart none = after_one_owns_none t k session x (outcome_of t session x) refl apart none
 request_owns_none t k session (op.Multi ops) apart none = after_all_owns_none t k (run_of t session 0 ops) (all_owns_none t k session 0 ops apart none t none)
 
+-- after a session's end a path has its node, unless the session owned it
 pub get-without_session : (t : Nodes) (session : ℕ) (q : List ℕ) → get (without_session t session) q ≡ cond (not (is_owned session (get t q))) (get t q) None
 unfolding without_session
 get-without_session t session q =
     get-retain_keys t (λ path. not (is_owned session (get t path))) q
     (λ x tied. ap (λ (p : List ℕ). not (is_owned session (get t p))) (sym (exact_bytes q x tied)))
 
+-- a node that is kept unless a session owns it is not the session's
 own_gone : (b : Bool) (k : ℕ) (o : Option Node) → is_owned k o ≡ b → is_owned k (cond (not b) o None) ≡ false
 own_gone true k o e = refl
 own_gone false k o e = e
 
+-- a session that ended owns no node
 pub ended_own : (t : Nodes) (k : ℕ) → OwnsNone (without_session t k) k
 ended_own t k q = ap (is_owned k) (get-without_session t k q) ∙ own_gone (is_owned k (get t q)) k (get t q) refl
 
+-- a node that is no session's is not the session's where it is taken away or kept
 other_gone : (b : Bool) (k : ℕ) (o : Option Node) → is_owned k o ≡ false → is_owned k (cond b o None) ≡ false
 other_gone true k o e = e
 other_gone false k o e = refl
 
+-- the end of a session leaves another one that owns no node without one
 pub ended_other : (t : Nodes) (k other : ℕ) → OwnsNone t k → OwnsNone (without_session t other) k
 ended_other t k other none q = ap (is_owned k) (get-without_session t other q) ∙ other_gone (not (is_owned other (get t q))) k (get t q) (none q)

@@ -15,15 +15,19 @@ use Rattle.dl_tree.specs.Slots.{with_node}
 abbrev pub same_path : List ℕ → List ℕ → Bool
 same_path q p = eq_by_cmp (slice_cmp nat_cmp) q p
 
+-- paths that compare equal are one path
 pub path_is : (q p : List ℕ) → same_path q p ≡ true → q ≡ p
 path_is q p e = tells_apart exact_bytes q p e
 
+-- a path compares equal to itself
 pub path_itself : (p : List ℕ) → same_path p p ≡ true
 path_itself p = (eq_by_cmp_equiv nat_list_cmp_total).refl p
 
+-- two paths compare the same either way round
 pub path_turned : (q p : List ℕ) → same_path q p ≡ same_path p q
 path_turned q p = (eq_by_cmp_equiv nat_list_cmp_total).symm q p
 
+-- different paths don't compare equal
 pub path_other : (q p : List ℕ) → (q ≡ p → ⊥) → same_path q p ≡ false
 path_other q p apart = go (cases_Bool (same_path q p))
   where
@@ -31,19 +35,24 @@ path_other q p apart = go (cases_Bool (same_path q p))
     go (inl e) = absurd (apart (path_is q p e))
     go (inr e) = e
 
+-- a tree with a node, or none, at a path has that there, and elsewhere what it had
 pub get-with_node : (t : Nodes) (p : List ℕ) (o : Option Node) (q : List ℕ) → get (with_node t p o) q ≡ cond (same_path q p) o (get t q)
 get-with_node t p None q = get-remove nat_list_cmp_total t p q
 get-with_node t p (Some n) q = get-insert nat_list_cmp_total t p n q
 
+-- a tree with a node, or none, at a path has that there
 pub get-with_node_same : (t : Nodes) (p : List ℕ) (o : Option Node) → get (with_node t p o) p ≡ o
 get-with_node_same t p o = get-with_node t p o p ∙ cond-true _ _ _ (path_itself p)
 
+-- a tree with a node, or none, at a path has at another path what it had
 pub get-with_node_other : (t : Nodes) (p : List ℕ) (o : Option Node) (q : List ℕ) → (q ≡ p → ⊥) → get (with_node t p o) q ≡ get t q
 get-with_node_other t p o q apart = get-with_node t p o q ∙ cond-false _ _ _ (path_other q p apart)
 
+-- trees that have the same at each path are one tree
 pub same_tree : (t u : Nodes) → ((q : List ℕ) → get t q ≡ get u q) → t ≡ u
 same_tree t u each = same_map nat_list_cmp_total exact_bytes t u each
 
+-- a test asked again where it failed takes the last choice
 again : {A : Type 0} (b : Bool) (x y z : A) → cond b x (cond b y z) ≡ cond b x z
 again true x y z = refl
 again false x y z = refl

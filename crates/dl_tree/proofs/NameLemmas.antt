@@ -1,5 +1,6 @@
 -- The names of a node's children among slots in order.
-use Rattle.std.proofs.Common.{◌≡◌, ℕ, Bool, true, false, cond, ◌&&◌, List, [], ◌∷◌, ◌++◌, length, map, filter, Option, Some, None, is_some, refl, sym, ap, ◌∙◌, arith, inl, inr, ◌⊎◌, ap₂, append_assoc}
+use Rattle.std.proofs.Common.{◌≡◌, ℕ, Bool, true, false, cond, ◌&&◌, List, [], ◌∷◌, ◌++◌, length, map, filter, Option}
+use Rattle.std.proofs.Common.{Some, None, is_some, refl, sym, ap, ◌∙◌, arith, inl, inr, ◌⊎◌, ap₂, append_assoc}
 use Rattle.std.proofs.lemmas.Bool.{cond-true, cond-false, cases_Bool}
 use Rattle.std.proofs.lemmas.List.{append-nil}
 use Rattle.std.specs.Option.{option_flatten}
@@ -29,6 +30,7 @@ abbrev onto_live : List ℕ → Option Node → List (List ℕ × Node) → List
 onto_live k None rest = rest
 onto_live k (Some n) rest = (k, n) ∷ rest
 
+-- the slots with a node, each with its node
 abbrev live : List (List ℕ × Option Node) → List (List ℕ × Node)
 live [] = []
 live (e ∷ es) = onto_live e.0 e.1 (live es)
@@ -37,6 +39,7 @@ live (e ∷ es) = onto_live e.0 e.1 (live es)
 abbrev IsFirst : List ℕ → List (List ℕ) → Type 0
 IsFirst k ks = AllByRecursion (λ y. slice_cmp nat_cmp k y ≡ Less) ks
 
+-- a path before all slots is before all slots with a node
 live_first : (k : List ℕ) (es : List (List ℕ × Option Node)) → IsFirst k (keys_of es) → IsFirst k (keys_of (live es))
 live_first k [] h = h
 live_first k (e ∷ es) h = go e.1 (live_first k es h.1)
@@ -45,14 +48,17 @@ live_first k (e ∷ es) h = go e.1 (live_first k es h.1)
     go None ih = ih
     go (Some n) ih = (h.0, ih)
 
+-- what is put at a path before all others stands first
 put_first : (k : List ℕ) (n : Node) (xs : List (List ℕ × Node)) → IsFirst k (keys_of xs) → map.put (slice_cmp nat_cmp) k n xs ≡ (k, n) ∷ xs
 put_first k n [] h = refl
 put_first k n (x ∷ xs) h = let e : slice_cmp nat_cmp k x.0 ≡ Less = h.0 in rw e
 
+-- a path before all slots has no slot
 none_first : (k : List ℕ) (es : List (List ℕ × Option Node)) → IsFirst k (keys_of es) → NonePasses (is_at (slice_cmp nat_cmp k)) es
 none_first k [] h = h
 none_first k (e ∷ es) h = (ap is_eq h.0, none_first k es h.1)
 
+-- a tree without a node where it has none is the tree
 absent_put : (t : Nodes) (p : List ℕ) → get t p ≡ None → with_node t p None ≡ t
 absent_put t p none = same_tree _ _ each
   where
@@ -63,10 +69,12 @@ absent_put t p none = same_tree _ _ each
         go (inl e) = cond-true _ _ _ e ∙ sym none ∙ ap (get t) (sym (path_is q p e))
         go (inr e) = cond-false _ _ _ e
 
+-- a list of length 0 is empty
 nil_of_length : (xs : List (List ℕ × Node)) → length xs ≡ 0 → xs ≡ []
 nil_of_length [] e = refl
 nil_of_length (x ∷ xs) e = absurd (omega (arith, e))
 
+-- the entries of the tree that sorted slots stand for are the slots with a node
 entries-tree_in : (es : List (List ℕ × Option Node)) → IsStrictlySortedBy (slice_cmp nat_cmp) (keys_of es) → entries (tree_in es) ≡ live es
 entries-tree_in [] s = nil_of_length _ (sym (len-entries (empty {X = Node} {R = slice_cmp nat_cmp})) ∙ len-empty (slice_cmp nat_cmp) Node)
 entries-tree_in (e ∷ es) s =
@@ -78,6 +86,7 @@ entries-tree_in (e ∷ es) s =
     go (Some n) h ih =
         entries-insert nat_list_cmp_total (tree_in es) e.0 n ∙ ap (map.put (slice_cmp nat_cmp) e.0 n) ih ∙ put_first e.0 n (live es) (live_first e.0 es h)
 
+-- the names in slots below a beginning are those of the paths with a node below it
 names-live : (prefix : List ℕ) (es : List (List ℕ × Option Node)) → names_in prefix es ≡ map name_of (filter (is_below prefix) (keys_of (live es)))
 names-live prefix [] = refl
 names-live prefix (e ∷ es) = go e.1 (names-live prefix es)
@@ -94,6 +103,7 @@ names-live prefix (e ∷ es) = go e.1 (names-live prefix es)
         more true = ap (λ (t : List (List ℕ)). name_of e.0 ∷ t) ih
         more false = ih
 
+-- the names in sorted slots below a path are the names of its children in the tree that they stand for
 pub names-tree_in : (es : List (List ℕ × Option Node)) (path : List ℕ) (now : Nodes × Nodes) (before : Nodes)
     → IsStrictlySortedBy (slice_cmp nat_cmp) (keys_of es) → ◌≡◌ {A = Nodes × Nodes} (tree_in es, before) now
     → names_in (below path) es ≡ child_names now.0 path
@@ -120,14 +130,17 @@ names_no prefix p o es fs names all none e inv =
     let here : names_in prefix es ≡ names_in prefix fs = ap (names_in prefix) e ∙ cond-false _ _ _ none in
     ap (λ (t : List (List ℕ)). names ++ t) (sym here) ∙ inv
 
+-- a slot without a node adds no name
 pub names_empty : (prefix p : List ℕ) (o : Option Node) (es fs : List (List ℕ × Option Node)) (names all : List (List ℕ)) (s : Bool) → s ≡ is_some o → s ≡ false
     → es ≡ (p, o) ∷ fs → names ++ names_in prefix es ≡ all → names ++ names_in prefix fs ≡ all
 names_empty prefix p o es fs names all s so st e inv = names_no prefix p o es fs names all (ap (λ (x : Bool). x && is_below prefix p) (sym so ∙ st)) e inv
 
+-- two facts of which the second fails don't hold together
 and_false : (x y : Bool) → y ≡ false → (x && y) ≡ false
 and_false true y e = e
 and_false false y e = refl
 
+-- a slot whose path is not below the beginning adds no name
 pub names_other : (prefix p a b : List ℕ) (o : Option Node) (es fs : List (List ℕ × Option Node)) (names all : List (List ℕ)) (r : Bool) → a ≡ prefix → b ≡ p
     → r ≡ is_below a b → r ≡ false → es ≡ (p, o) ∷ fs → names ++ names_in prefix es ≡ all → names ++ names_in prefix fs ≡ all
 names_other prefix p a b o es fs names all r pa pb ra rt e inv =
@@ -143,5 +156,6 @@ names_start es iter path first end names now before s is f l i n =
     ∙ ap (names_in (below path)) (i ∙ ap₂ (λ (x y : List ℕ). entries_between (slice_cmp nat_cmp) (Included x) (Excluded y) es) f l)
     ∙ names-between path es ∙ names-tree_in es path now before s is
 
+-- no slots add no name
 pub names_end : (prefix : List ℕ) (es : List (List ℕ × Option Node)) (names all : List (List ℕ)) → es ≡ [] → names ++ names_in prefix es ≡ all → names ≡ all
 names_end prefix es names all e inv = sym (append-nil names) ∙ ap (λ (t : List (List ℕ × Option Node)). names ++ names_in prefix t) (sym e) ∙ inv

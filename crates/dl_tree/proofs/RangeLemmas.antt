@@ -1,5 +1,6 @@
 -- The slots below a path stand together in byte order.
-use Rattle.std.proofs.Common.{◌≡◌, ℕ, Bool, true, false, cond, not, ◌&&◌, List, [], ◌∷◌, ◌++◌, length, Option, is_some, refl, sym, ap, ◌∙◌, arith, inl, inr, ◌⊎◌, ap₂, append_assoc, bytes_eq, ◌-◌}
+use Rattle.std.proofs.Common.{◌≡◌, ℕ, Bool, true, false, cond, not, ◌&&◌, List, [], ◌∷◌, ◌++◌, length, Option}
+use Rattle.std.proofs.Common.{is_some, refl, sym, ap, ◌∙◌, arith, inl, inr, ◌⊎◌, ap₂, append_assoc, bytes_eq, ◌-◌}
 use Rattle.std.proofs.lemmas.Bool.{cond-true, cond-false, cases_Bool, true≢false}
 use Rattle.std.proofs.lemmas.List.{take-append-drop}
 use Rattle.std.proofs.lemmas.Slice.Eq.{bytes_eq-Decides}
@@ -14,6 +15,7 @@ use Rattle.dl_fields.specs.Paths.{last_length}
 use Rattle.dl_tree.specs.Paths.{name_of, front_of, root, with_byte, below, past_below, is_below}
 use Rattle.dl_tree.specs.Slots.{names_in}
 
+-- a number compares equal to itself
 same_number : (x : ℕ) → nat_cmp x x ≡ Equal
 same_number x = grind (arith)
 
@@ -22,6 +24,7 @@ cmp_front : (xs ys zs : List ℕ) → slice_cmp nat_cmp (xs ++ ys) (xs ++ zs) �
 cmp_front [] ys zs = refl
 cmp_front (x ∷ xs) ys zs = ap (λ (o : Ordering). ordering_then o (slice_cmp nat_cmp (xs ++ ys) (xs ++ zs))) (same_number x) ∙ cmp_front xs ys zs
 
+-- the empty list is at most each list
 least : (ys : List ℕ) → is_le (slice_cmp nat_cmp [] ys) ≡ true
 least [] = refl
 least (y ∷ ys) = refl
@@ -30,6 +33,7 @@ least (y ∷ ys) = refl
 abbrev stem : List ℕ → List ℕ
 stem path = cond (bytes_eq path root) [] path
 
+-- a path with one more byte is the path, without the slash that is the root's, and that byte
 with_byte-stem : (path : List ℕ) (byte : ℕ) → with_byte path byte ≡ stem path ++ byte ∷ []
 with_byte-stem path byte = go (bytes_eq path root)
   where
@@ -37,6 +41,7 @@ with_byte-stem path byte = go (bytes_eq path root)
     go true = refl
     go false = refl
 
+-- the range of the paths below a path doesn't run backwards
 pub forward : (path first end : List ℕ) → first ≡ below path → end ≡ past_below path → is_gt (slice_cmp nat_cmp first end) ≡ false
 forward path first end f e =
     ap₂ (λ (x y : List ℕ). is_gt (slice_cmp nat_cmp x y)) (f ∙ with_byte-stem path 47) (e ∙ with_byte-stem path 48)
@@ -49,10 +54,12 @@ in_range xs name =
     ∙ ap₂ (λ (o p : Ordering). is_le o && not (is_le p)) (cmp_front xs (47 ∷ []) (47 ∷ name)) (cmp_front xs (48 ∷ []) (47 ∷ name))
     ∙ ap (λ (b : Bool). b && true) (least name)
 
+-- of two facts that hold together the first holds
 and_left : (a b : Bool) → (a && b) ≡ true → a ≡ true
 and_left true b e = refl
 and_left false b e = e
 
+-- a child's path stands in the range of the paths below its parent's
 is_below-range : (path k : List ℕ) → is_below (below path) k ≡ true
     → range_contains (slice_cmp nat_cmp) (Included (below path)) (Excluded (past_below path)) k ≡ true
 unfolding front_of name_of
@@ -68,6 +75,7 @@ is_below-range path k e =
 abbrev pub between : List ℕ → List (List ℕ × Option Node) → List (List ℕ × Option Node)
 between path es = entries_between (slice_cmp nat_cmp) (Included (below path)) (Excluded (past_below path)) es
 
+-- two facts of which the second fails don't hold together
 and_right : (a b : Bool) → b ≡ false → (a && b) ≡ false
 and_right true b e = e
 and_right false b e = refl

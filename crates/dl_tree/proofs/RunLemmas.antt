@@ -1,5 +1,6 @@
 -- Operations in order, one turn at a time.
-use Rattle.std.proofs.Common.{◌≡◌, ℕ, zero, suc, ◌+◌, ◌<◌, ◌≤◌, List, [], ◌∷◌, ◌++◌, length, get_or, drop, Ok, Err, refl, sym, ap, ◌∙◌, arith, append_assoc, drop-cons, add-one}
+use Rattle.std.proofs.Common.{◌≡◌, ℕ, zero, suc, ◌+◌, ◌<◌, ◌≤◌, List, [], ◌∷◌, ◌++◌, length, get_or, drop}
+use Rattle.std.proofs.Common.{Ok, Err, refl, sym, ap, ◌∙◌, arith, append_assoc, drop-cons, add-one}
 use Rattle.std.proofs.lemmas.List.{append-nil}
 use Rattle.dl_types.specs.declared.one_op.OneOp.{OneOp}
 use Rattle.dl_types.specs.declared.one_answer.OneAnswer.{OneAnswer}
@@ -9,15 +10,18 @@ use Rattle.dl_tree.specs.declared.fault.OneFault.{OneFault}
 use Rattle.dl_tree.specs.declared.fault.OneFault.TheVariants.{NoMemory, Failed}
 use Rattle.dl_tree.specs.Faults.{after_answers, IsFault, IsRunFault, at_place}
 
+-- answers before a run that begins with one are those answers and that one before the rest
 after-front : (answers : List OneAnswer) (a : OneAnswer) (r : Run) → after_answers answers (with_front a r) ≡ after_answers (answers ++ a ∷ []) r
 after-front answers a (Ok r) = ap (λ (t : List OneAnswer). Ok (t, r.1)) (sym (append_assoc answers (a ∷ []) r.0))
 after-front answers a (Err e) = refl
 
+-- a run of operations is the first one, and the rest on the tree that it leaves
 all-cons : (t : Nodes) (session place : ℕ) (x : OneOp) (xs : List OneOp)
     → run_of t session place (x ∷ xs) ≡ then_rest (outcome_of t session x) place (λ next. run_of next session (place + 1) xs)
 unfolding run_of
 all-cons t session place x xs = refl
 
+-- a run of no operation answers nothing and leaves the tree
 all-nil : (t : Nodes) (session place : ℕ) → run_of t session place [] ≡ Ok ([], t)
 unfolding run_of
 all-nil t session place = refl
@@ -68,6 +72,7 @@ pub run_fault : (start : Run) (t : Nodes) (session place : ℕ) (x : OneOp) (xs 
 run_fault start t session place x xs answers NoMemory within is h inv = tt
 run_fault start t session place x xs answers (Failed why) within is h inv = run_failed start t session place x xs answers why within is h inv
 
+-- past the last operation none is left
 pub drop_end : (xs : List OneOp) (n : ℕ) → length xs ≤ n → drop n xs ≡ []
 drop_end [] zero h = refl
 drop_end [] (suc n) h = refl

@@ -1,5 +1,6 @@
 -- Slots and changes, and the trees that they stand for.
-use Rattle.std.proofs.Common.{◌≡◌, ℕ, Bool, true, false, cond, not, List, [], ◌∷◌, ◌++◌, Option, Some, None, is_some, IsTrue, refl, sym, ap, ◌∙◌, subst, inl, inr, ◌⊎◌}
+use Rattle.std.proofs.Common.{◌≡◌, ℕ, Bool, true, false, cond, not, List, [], ◌∷◌, ◌++◌, Option, Some}
+use Rattle.std.proofs.Common.{None, is_some, IsTrue, refl, sym, ap, ◌∙◌, subst, inl, inr, ◌⊎◌}
 use Rattle.std.proofs.lemmas.Bool.{cond-true, cond-false, cases_Bool, true≢false}
 use Rattle.std.specs.Option.{option_flatten}
 use Rattle.std.specs.Cmp.Lexicographic.{slice_cmp}
@@ -27,10 +28,12 @@ use Rattle.dl_tree.proofs.MapLemmas.{same_path, path_is, path_turned, get-with_n
 abbrev pub slot_at : List (List ℕ × Option Node) → List ℕ → Option (Option Node)
 slot_at es q = lookup (is_at (slice_cmp nat_cmp q)) es
 
+-- a choice between a slot's node and that of a further search is the node of the choice between both slots
 flat_cond : (b : Bool) (o : Option Node) (l : Option (Option Node)) → cond b o (option_flatten l) ≡ option_flatten (cond b (Some o) l)
 flat_cond true o l = refl
 flat_cond false o l = refl
 
+-- the tree that slots stand for has at a path what the path's slot has
 pub get-tree_in : (es : List (List ℕ × Option Node)) (q : List ℕ) → get (tree_in es) q ≡ option_flatten (slot_at es q)
 get-tree_in [] q = get-empty (slice_cmp nat_cmp) q
 get-tree_in (e ∷ es) q =
@@ -62,6 +65,7 @@ tree_in-swept m n k was u = same_tree _ _ each
             ap option_flatten (cond-true _ _ _ e) ∙ ap option_flatten (sym was) ∙ ap (λ (p : List ℕ). option_flatten (slot_at m.entries p)) (path_is k q e)
         go (inr e) = ap option_flatten (cond-false _ _ _ e)
 
+-- something, or else something, is something
 is_some-cond : {A : Type 0} (b : Bool) (x : A) (o : Option A) → IsTrue (is_some o) → IsTrue (is_some (cond b (Some x) o))
 is_some-cond true x o h = refl
 is_some-cond false x o h = h
@@ -71,21 +75,26 @@ pub has_slot-written : (m n : BTreeMap (List ℕ) (Option Node)) (k : List ℕ) 
     → has_slot m.entries q → has_slot n.entries q
 has_slot-written m n k v u q h = subst (λ (o : Option (Option Node)). IsTrue (is_some o)) (sym (u.0 q)) (is_some-cond (same_path k q) v (slot_at m.entries q) h)
 
+-- a path at which a slot is put has a slot
 pub has_slot-here : (m n : BTreeMap (List ℕ) (Option Node)) (k : List ℕ) (v : Option Node) → Updates (slice_cmp nat_cmp) m n k (Some v) → has_slot n.entries k
 has_slot-here m n k v u = subst (λ (o : Option (Option Node)). IsTrue (is_some o)) (sym u.1) refl
 
+-- changes whose paths have slots have them where no slot is lost
 pub Covers-kept : (es fs : List (List ℕ × Option Node)) (cs : List Change) → ((q : List ℕ) → has_slot es q → has_slot fs q) → Covers es cs → Covers fs cs
 Covers-kept es fs [] keep c = tt
 Covers-kept es fs (c ∷ cs) keep h = (keep c.path h.0, Covers-kept es fs cs keep h.1)
 
+-- one more change whose path has a slot, and all of them have slots
 pub Covers-more : (es : List (List ℕ × Option Node)) (cs : List Change) (c : Change) → Covers es cs → has_slot es c.path → Covers es (cs ++ c ∷ [])
 Covers-more es [] c h one = (one, tt)
 Covers-more es (d ∷ ds) c h one = (h.0, Covers-more es ds c h.1 one)
 
+-- where all changes have slots, the last one has one, and so have those before it
 pub Covers-fewer : (es : List (List ℕ × Option Node)) (cs : List Change) (c : Change) → Covers es (cs ++ c ∷ []) → Covers es cs × has_slot es c.path
 Covers-fewer es [] c h = (tt, h.0)
 Covers-fewer es (d ∷ ds) c h = let rest = Covers-fewer es ds c h.1 in ((h.0, rest.0), rest.1)
 
+-- to go back over changes is to take back the newest one, and then those before it
 pub before-more : (t : Nodes) (cs : List Change) (c : Change) → tree_before t (cs ++ c ∷ []) ≡ tree_before (with_node t c.path c.before) cs
 before-more t [] c = refl
 before-more t (d ∷ ds) c = ap (λ (u : Nodes). with_node u d.path d.before) (before-more t ds c)
@@ -105,6 +114,7 @@ pub restored : {E : Type 0} (m n : BTreeMap (List ℕ) (Option Node)) (k : List 
 restored m n k v (Ok old) h u none = tree_in-written m n k v u
 restored m n k v (Err e) h u none = absurd (true≢false (sym h ∙ ap is_some none))
 
+-- the node of a path's slot is what the tree has at that path
 pub found : (es : List (List ℕ × Option Node)) (q : List ℕ) (o : Option (Option Node)) (now : Nodes × Nodes) (before : Nodes)
     → ◌≡◌ {A = Nodes × Nodes} (tree_in es, before) now → o ≡ slot_at es q → option_flatten o ≡ get now.0 q
 found es q o now before is e = ap option_flatten e ∙ sym (get-tree_in es q) ∙ ap (λ (t : Nodes × Nodes). get t.0 q) is
@@ -127,6 +137,7 @@ noted m n key path p v before old cs ds now is k q u o b d =
     ∙ ap (λ (t : Nodes × Nodes). t.1) is in
     λ i. (first i, second i)
 
+-- after a slot is put and noted with what it had, each path that changed has a slot
 pub Covers-noted : (m n : BTreeMap (List ℕ) (Option Node)) (key path p : List ℕ) (v before : Option Node) (cs ds : List Change) → Covers m.entries cs → key ≡ p
     → path ≡ p → Updates (slice_cmp nat_cmp) m n key (Some v)
     → ds ≡ cs ++ (record { path = path; before = before }) ∷ [] → Covers n.entries ds
@@ -160,6 +171,7 @@ kept_flat k (Some (Some n)) = go (is_owned k (Some n))
     go true = refl
     go false = refl
 
+-- slots without those that are empty or a session's stand for the tree after the session's end
 pub tree_in-dropped : (es fs : List (List ℕ × Option Node)) (k : ℕ) → IsStrictlySortedBy (slice_cmp nat_cmp) (keys_of es)
     → fs ≡ filter (λ e. not (is_owned k e.1 || is_none e.1)) es → tree_in fs ≡ without_session (tree_in es) k
 tree_in-dropped es fs k sorted is = same_tree _ _ each
@@ -173,6 +185,7 @@ tree_in-dropped es fs k sorted is = same_tree _ _ each
         ∙ kept_flat k (slot_at es q) ∙ ap (λ (o : Option Node). cond (not (is_owned k o)) o None) (sym (get-tree_in es q))
         ∙ sym (get-without_session (tree_in es) k q)
 
+-- with no change noted, slots without those that are empty or a session's stand for the tree after its end, twice
 pub dropped : (es fs : List (List ℕ × Option Node)) (cs : List Change) (k : ℕ) (now : Nodes × Nodes) (before : Nodes) → cs ≡ []
     → IsStrictlySortedBy (slice_cmp nat_cmp) (keys_of es) → fs ≡ filter (λ e. not (is_owned k e.1 || is_none e.1)) es
     → ◌≡◌ {A = Nodes × Nodes} (tree_in es, before) now

@@ -1,5 +1,6 @@
 -- The metadata tree: a finite map from paths to nodes, and what each operation answers and leaves.
-use Rattle.std.specs.Prelude.{ℕ, ◌+◌, ◌-◌, ◌^◌, Bool, true, false, if◌then◌else◌, not, ◌&&◌, ◌==◌, nat_le, ◌≤◌, List, [], ◌∷◌, ◌++◌, length, map, filter, Option, Some, None, is_some, Result, Ok, Err, bytes_eq}
+use Rattle.std.specs.Prelude.{ℕ, ◌+◌, ◌-◌, ◌^◌, Bool, true, false, if◌then◌else◌, not, ◌&&◌, ◌==◌, nat_le, ◌≤◌, List, []}
+use Rattle.std.specs.Prelude.{◌∷◌, ◌++◌, length, map, filter, Option, Some, None, is_some, Result, Ok, Err, bytes_eq}
 use Rattle.std.specs.FinMap.{FinMap, empty, get, insert, remove, retain_keys, keys}
 use Rattle.std.specs.Cmp.Lexicographic.{slice_cmp}
 use Rattle.std.specs.Ordering.{nat_cmp}
@@ -89,6 +90,7 @@ child_outcome t session path bytes mode parent =
 abbrev pub parent_in : Nodes → List ℕ → Mode → Option Node
 parent_in t path mode = if bytes_eq path root && not (is_counted mode) then None else get t (parent_of path)
 
+-- a creation, below the parent that is there or not
 abbrev pub create_outcome : Nodes → ℕ → List ℕ → List ℕ → Mode → Option Node → Outcome
 create_outcome t session path bytes mode None = Err NoNode
 create_outcome t session path bytes mode (Some parent) = child_outcome t session path bytes mode parent
@@ -102,6 +104,7 @@ delete_outcome t path version (Some n) =
     else (if not (length (child_names t path) == 0) then Err (NotEmpty (length (child_names t path)))
     else Ok (Done, remove t path)))
 
+-- a set of the node that is there or not: its version rises by one
 abbrev pub set_outcome : Nodes → List ℕ → List ℕ → Option ℕ → Option Node → Outcome
 set_outcome t path bytes version None = Err NoNode
 set_outcome t path bytes version (Some n) =
@@ -109,14 +112,17 @@ set_outcome t path bytes version (Some n) =
     else (if n.version == 2 ^ 64 - 1 then Err Spent
     else Ok (Version (n.version + 1), insert t path (record n { bytes = bytes; version = n.version + 1 })))
 
+-- a check of the version of the node that is there or not
 abbrev pub check_outcome : Nodes → Option ℕ → Option Node → Outcome
 check_outcome t version None = Err NoNode
 check_outcome t version (Some n) = if fits version n then Ok (Done, t) else Err (BadVersion n.version)
 
+-- a read of the bytes and the version of the node that is there or not
 abbrev pub get_outcome : Nodes → Option Node → Outcome
 get_outcome t None = Err NoNode
 get_outcome t (Some n) = Ok (Bytes n.bytes n.version, t)
 
+-- a listing of the names of the children of the node that is there or not
 abbrev pub children_outcome : Nodes → List ℕ → Option Node → Outcome
 children_outcome t path None = Err NoNode
 children_outcome t path (Some n) = Ok (Names (child_names t path), t)
@@ -134,10 +140,12 @@ outcome_of t session (Children path) = children_outcome t path (get t path)
 abbrev pub Run : Type 0
 Run = Result (List OneAnswer × Nodes) (ℕ × Why)
 
+-- a run with one answer before its answers; a failure is the same
 abbrev pub with_front : OneAnswer → Run → Run
 with_front a (Ok r) = Ok (a ∷ r.0, r.1)
 with_front a (Err e) = Err e
 
+-- an operation and the rest of its run: a failure names the operation's place, and ends the run
 abbrev pub then_rest : Outcome → ℕ → (Nodes → Run) → Run
 then_rest (Ok r) place rest = with_front r.0 (rest r.1)
 then_rest (Err why) place rest = Err (place, why)
@@ -147,10 +155,12 @@ unfoldable pub run_of : Nodes → ℕ → ℕ → List OneOp → Run
 run_of t session place [] = Ok ([], t)
 run_of t session place (x ∷ xs) = then_rest (outcome_of t session x) place (λ next. run_of next session (place + 1) xs)
 
+-- what a request of one operation answers and leaves; a failure leaves the tree before
 abbrev pub after_one : Nodes → Outcome → MetaAnswer × Nodes
 after_one t (Ok r) = (answer.One r.0, r.1)
 after_one t (Err why) = (answer.Failed 0 why, t)
 
+-- what a request of many operations answers and leaves; a failure leaves the tree before
 abbrev pub after_all : Nodes → Run → MetaAnswer × Nodes
 after_all t (Ok r) = (answer.Many r.0, r.1)
 after_all t (Err e) = (answer.Failed e.0 e.1, t)
@@ -165,6 +175,7 @@ abbrev pub HasPlaces : MetaOp → Type 0
 HasPlaces (op.One x) = Unit {0}
 HasPlaces (op.Multi ops) = length ops ≤ 65535
 
+-- whether a session is the owner that a node has or lacks
 abbrev pub is_owner : ℕ → Option ℕ → Bool
 is_owner session None = false
 is_owner session (Some k) = k == session

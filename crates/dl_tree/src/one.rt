@@ -1,8 +1,12 @@
-ghost use Rattle.std.specs.Prelude.{◌≡◌, ℕ, Ok, IfOk, IfErr, ◌&&◌, ◌^◌, nat_le, false, not, bytes_eq};
+ghost use Rattle.std.specs.Prelude.{◌≡◌, ℕ, Ok, IfOk, IfErr, ◌&&◌, ◌^◌};
+ghost use Rattle.std.specs.Prelude.{nat_le, false, not, bytes_eq};
 ghost use Rattle.std.specs.FinMap.{get};
 ghost use Rattle.dl_tree.specs.Faults.{IsFault};
 ghost use Rattle.dl_tree.specs.Paths.{parent_of, root};
-ghost use Rattle.dl_tree.specs.Trees.{fits, is_counted, owner_of, parent_after, made_path, create_outcome, child_outcome, parent_in, delete_outcome, set_outcome, check_outcome, get_outcome, children_outcome, outcome_of};
+ghost use Rattle.dl_tree.specs.Trees.{fits, is_counted, owner_of, parent_after};
+ghost use Rattle.dl_tree.specs.Trees.{made_path, create_outcome, child_outcome};
+ghost use Rattle.dl_tree.specs.Trees.{parent_in, delete_outcome, set_outcome};
+ghost use Rattle.dl_tree.specs.Trees.{check_outcome, get_outcome, children_outcome, outcome_of};
 
 use crate::fault::OneFault;
 use crate::node::Node;

@@ -1,7 +1,8 @@
 ghost use Rattle.std.specs.Prelude.{◌≡◌, ℕ, ◌==◌, ◌++◌, not, ◌-◌, ◌≤◌, length, IfOk, bytes_eq};
 ghost use Rattle.dl_fields.specs.Digits.{digits};
 ghost use Rattle.dl_fields.specs.Paths.{last_length};
-ghost use Rattle.dl_tree.specs.Paths.{name_of, front_of, parent_of, with_byte, below, past_below, is_below, root};
+ghost use Rattle.dl_tree.specs.Paths.{name_of, front_of, parent_of, with_byte};
+ghost use Rattle.dl_tree.specs.Paths.{below, past_below, is_below, root};
 
 use dl_fields::digits::put_digits;
 use dl_fields::path::last_length;

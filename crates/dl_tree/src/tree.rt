@@ -1,6 +1,8 @@
-ghost use Rattle.std.specs.Prelude.{◌≡◌, ◌≤◌, IfOk, OnOk, OnErr, MatchOption, MatchResult, Some, None, length, is_some, true};
+ghost use Rattle.std.specs.Prelude.{◌≡◌, ◌≤◌, IfOk, OnOk, OnErr, MatchOption};
+ghost use Rattle.std.specs.Prelude.{MatchResult, Some, None, length, is_some, true};
 ghost use Rattle.std.specs.FinMap.{get};
-ghost use Rattle.dl_tree.specs.Trees.{root_alone, without_session, after_request, after_one, after_all, outcome_of, run_of, HasPlaces, child_names, node};
+ghost use Rattle.dl_tree.specs.Trees.{root_alone, without_session, after_request, after_one};
+ghost use Rattle.dl_tree.specs.Trees.{after_all, outcome_of, run_of, HasPlaces, child_names, node};
 
 use crate::fault::{OneFault, RunFault};
 use crate::node::NodeView;

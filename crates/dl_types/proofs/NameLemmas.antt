@@ -8,5 +8,6 @@ bad_far : (at : ℕ) (bytes : List ℕ) → 64 ≤ at → 0 < length bytes → b
 bad_far at [] far some = absurd (omega arith)
 bad_far at (c ∷ cs) far some = rw (le-leb 64 at far) refl
 
+-- of a list of more than 64 bytes, the bytes from any place past the 64th on are refused at 64
 pub bad_at : (i : ℕ) (bytes : List ℕ) → 64 ≤ i → i < length bytes → bad_from i (drop i bytes) ≡ Some 64
 bad_at i bytes far within = bad_far i (drop i bytes) far (omega (arith, length-drop i bytes))

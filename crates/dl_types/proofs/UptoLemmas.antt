@@ -1,5 +1,6 @@
 -- The numbers below a bound.
-use Rattle.std.proofs.Common.{◌≡◌, ℕ, zero, suc, ◌+◌, ◌<◌, Bool, true, false, ◌&&◌, [], ◌∷◌, ◌++◌, map, length, get_or, refl, sym, ap, ◌∙◌, arith, add-one, inl, inr, ◌⊎◌}
+use Rattle.std.proofs.Common.{◌≡◌, ℕ, zero, suc, ◌+◌, ◌<◌, Bool, true, false, ◌&&◌, [], ◌∷◌, ◌++◌, map}
+use Rattle.std.proofs.Common.{length, get_or, refl, sym, ap, ◌∙◌, arith, add-one, inl, inr, ◌⊎◌}
 use Rattle.std.proofs.lemmas.Bool.{and_parts, cases_eq, and_left, and_right}
 use Rattle.std.proofs.lemmas.List.{length-append, get_or_append_left, get_or-map}
 use Rattle.std.proofs.Math.Seq.{get_or-append_seam}
@@ -7,10 +8,12 @@ use Rattle.std.proofs.lemmas.List.Folds.{list_all-append}
 use Rattle.std.specs.List.{list_all}
 use Rattle.dl_types.specs.Upto.{upto}
 
+-- the numbers below n are n
 pub length-upto : (n : ℕ) → length (upto n) ≡ n
 length-upto zero = refl
 length-upto (suc n) = omega (arith, length-append (upto n) (n ∷ []), length-upto n)
 
+-- the number at each place below the bound is the place itself
 pub get_or-upto : (n k d : ℕ) → k < n → get_or (upto n) k d ≡ k
 get_or-upto zero k d below = absurd (omega arith)
 get_or-upto (suc n) k d below = go (cases_eq k n) (get_or-upto n k d)
@@ -22,10 +25,12 @@ get_or-upto (suc n) k d below = go (cases_eq k n) (get_or-upto n k d)
         let front : k < length (upto n) = omega (arith, length-upto n) in
         get_or_append_left (upto n) (n ∷ []) d k front ∙ rest (omega arith)
 
+-- the image at each place below the bound is the place's own image
 pub get_or-map-upto : {X : Type 0} (f : ℕ → X) (n k : ℕ) (d : X) → k < n → get_or (map f (upto n)) k d ≡ f k
 get_or-map-upto f n k d below =
     get_or-map f (upto n) k 0 d (omega (arith, length-upto n)) ∙ ap f (get_or-upto n k 0 below)
 
+-- what all numbers below the bound pass, each of them passes
 pub list_all-upto : (p : ℕ → Bool) (n k : ℕ) → list_all p (upto n) ≡ true → k < n → p k ≡ true
 list_all-upto p zero k all below = absurd (omega arith)
 list_all-upto p (suc n) k all below = go (cases_eq k n) (list_all-upto p n k parts.0)
@@ -37,6 +42,7 @@ list_all-upto p (suc n) k all below = go (cases_eq k n) (list_all-upto p n k par
     go (inl e) rest = ap p e ∙ (and_parts (p n) true parts.1).0
     go (inr other) rest = rest (omega arith)
 
+-- to ask for a fact and for what always holds is to ask for the fact
 and_true : (b : Bool) → (b && true) ≡ b
 and_true true = refl
 and_true false = refl
@@ -55,6 +61,7 @@ list_all_upto_fails p (suc n) k below fails = list_all-append p (upto n) (n ∷ 
     go (inl e) rest = and_right _ _ (and_left _ _ (ap p (sym e) ∙ fails))
     go (inr other) rest = and_left _ _ (rest (omega arith) fails)
 
+-- two facts that hold, hold together
 both_true : (a b : Bool) → a ≡ true → b ≡ true → (a && b) ≡ true
 both_true true true x y = refl
 both_true false b x y = cc

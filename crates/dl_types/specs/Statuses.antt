@@ -1,7 +1,8 @@
 -- The numbers of statuses, the statuses of faults, and the names of limits.
 use Rattle.std.specs.Prelude.{ℕ, List, codes}
 use Rattle.dl_types.specs.declared.limit.LimitName.{LimitName}
-use Rattle.dl_types.specs.declared.limit.LimitName.TheVariants.{Lines, Schedule, Messages, MessageBytes, Transcript, Journal, Pool, Index, Ledgers, Queue, Txid, Sessions, Calls}
+use Rattle.dl_types.specs.declared.limit.LimitName.TheVariants.{Lines, Schedule, Messages, MessageBytes, Transcript, Journal}
+use Rattle.dl_types.specs.declared.limit.LimitName.TheVariants.{Pool, Index, Ledgers, Queue, Txid, Sessions, Calls}
 use Rattle.dl_types.specs.declared.status.Status.{Status}
 use Rattle.dl_types.specs.declared.status.Status.TheVariants as status
 use Rattle.dl_types.specs.declared.dir_fault.DirFault.{DirFault}

@@ -1,4 +1,5 @@
-use Rattle.std.proofs.Common.{◌≡◌, ◌<◌, ◌+◌, ◌-◌, ◌++◌, [], ◌∷◌, ℕ, zero, suc, List, length, take, drop, set, refl, sym, ◌∙◌, ap, arith, append_assoc, length-append, length-drop, length-take}
+use Rattle.std.proofs.Common.{◌≡◌, ◌<◌, ◌+◌, ◌-◌, ◌++◌, [], ◌∷◌, ℕ, zero, suc, List, length, take, drop, set}
+use Rattle.std.proofs.Common.{refl, sym, ◌∙◌, ap, arith, append_assoc, length-append, length-drop, length-take}
 use Rattle.std.specs.Int.{w32, w64, to_be_bytes}
 use Rattle.std.proofs.lemmas.List.{take_at, drop_at, set-append_right, drop-drop}
 use Rattle.dl_journal.specs.Batches.{frame_of}
@@ -33,7 +34,8 @@ returns c =
     let xs = c.args.frame.now in
     let first : c.copy_from_slice.new.self ≡ to_be_bytes w64 c.args.number = c.copy_from_slice.ensures.after ∙ c.to_be_bytes.ensures in
     let size : length xs - 1 - 12 ≡ length (body_of xs) = omega (arith, c.requires.some, length-take (length xs - 13) (drop 12 xs), length-drop 12 xs) in
-    let second : c.copy_from_slice-2.new.self ≡ to_be_bytes w32 (length (body_of xs)) = c.copy_from_slice-2.ensures.after ∙ c.to_be_bytes-2.ensures ∙ ap (λ (n : ℕ). to_be_bytes w32 n) size in
+    let second : c.copy_from_slice-2.new.self ≡ to_be_bytes w32 (length (body_of xs)) = c.copy_from_slice-2.ensures.after ∙ c.to_be_bytes-2.ensures
+    ∙ ap (λ (n : ℕ). to_be_bytes w32 n) size in
     filled xs c.copy_from_slice.new.self c.copy_from_slice-2.new.self c.requires.some (ap length first) (ap length second)
     ∙ ap (λ (a : List ℕ). (a ++ (c.copy_from_slice-2.new.self ++ body_of xs)) ++ 0 ∷ []) first
     ∙ ap (λ (a : List ℕ). (to_be_bytes w64 c.args.number ++ (a ++ body_of xs)) ++ 0 ∷ []) second

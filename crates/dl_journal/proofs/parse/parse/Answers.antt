@@ -2,7 +2,7 @@ use Rattle.std.proofs.Common.{◌≡◌, ◌∙◌, ◌+◌, ◌≤◌, ◌++◌
 use Rattle.std.proofs.lemmas.List.{take_rest}
 use Rattle.dl_journal.specs.declared.batch.Batch.{Batch}
 use Rattle.dl_journal.specs.Batches.{magic, spell, Runs}
-use Rattle.dl_journal.specs.Reading.{due_of, Framed}
+use Rattle.dl_journal.specs.Reading.{due_of, IsFramed}
 use Rattle.dl_journal.proofs.Parsing.{grown, holds}
 use Rattle.dl_journal.proofs.parse.parse.Goals as goal
 use Rattle.dl_journal.proofs.parse.parse.Goals.{then-loop-at-test+else-bytes-at-eq1, else-loop-at-test}
@@ -11,8 +11,9 @@ pub loop-at-preserved : goal.loop-at-preserved
 loop-at-preserved c =
     let inv = c.loop-at.invariant in
     let b = c.in_ok-batch.batch in
-    let frame_of = subst (λ (l : List ℕ). Framed c.loop-at.due l b) (take_rest c.args.bytes.now (c.loop-at.at + 1)) c.in_ok-batch.ensures in
-    let g = grown c.args.bytes.now c.loop-at.at c.loop-at.due inv.first c.loop-at.batches.items b inv.runs inv.due inv.place c.loop-at-test.true c.if-bytes-at-eq1.true inv.spelled frame_of in
+    let frame_of = subst (λ (l : List ℕ). IsFramed c.loop-at.due l b) (take_rest c.args.bytes.now (c.loop-at.at + 1)) c.in_ok-batch.ensures in
+    let g = grown c.args.bytes.now c.loop-at.at c.loop-at.due inv.first c.loop-at.batches.items b inv.runs inv.due inv.place c.loop-at-test.true
+    c.if-bytes-at-eq1.true inv.spelled frame_of in
     let pushed : c.push.new.self.items ≡ c.loop-at.batches.items ++ b ∷ [] = c.in_ok-push.ensures.items in
     let size : c.loop-at.at + (13 + length b.body) ≡ c.loop-at.at + (13 + c.len.result) = ap (λ (n : ℕ). c.loop-at.at + (13 + n)) (sym c.len.ensures) in
     record {
@@ -30,6 +31,7 @@ returns c =
     let inv = c.loop-at.invariant in
     elim c.loop-at-test.branch [
       | then-loop-at-test+else-bytes-at-eq1 w ↦
-          holds c.args.bytes.now c.loop-at.at c.unwrap_or.result c.loop-at.due inv.first c.loop-at.batches.items inv.runs inv.due inv.place w.loop-at-test.true w.if-bytes-at-eq1.false inv.spelled c.unwrap_or.ensures c.requires
+          holds c.args.bytes.now c.loop-at.at c.unwrap_or.result c.loop-at.due inv.first c.loop-at.batches.items inv.runs inv.due inv.place
+          w.loop-at-test.true w.if-bytes-at-eq1.false inv.spelled c.unwrap_or.ensures c.requires
       | else-loop-at-test w ↦ absurd (omega arith)
     ]

@@ -10,4 +10,5 @@ returns g c = through _ _ _ _ _ _ _ _ c.in_ok-write_at.ensures.wrote c.sync.ensu
 pub returns-in_err-write_at : goal.returns-in_err-write_at
 returns-in_err-write_at g c =
     let same : c.from_residual.result ≡ Err c.in_err-write_at.field-0.0 = search rules in
-    subst (λ (r : Result (Unit {0}) DeviceFault). Stores (g.D.Depot.view c.args.depot.now) (g.D.Depot.view c.write_at.new.self) c.args.file c.args.at c.args.bytes.now r) (sym same) (through_err _ _ _ _ _ _ c.in_err-write_at.ensures.wrote)
+    subst (λ (r : Result (Unit {0}) DeviceFault). Stores (g.D.Depot.view c.args.depot.now) (g.D.Depot.view c.write_at.new.self) c.args.file
+    c.args.at c.args.bytes.now r) (sym same) (through_err _ _ _ _ _ _ c.in_err-write_at.ensures.wrote)

@@ -12,7 +12,8 @@ returns-then-self-eq0-clause-steps c =
 -- the page that comes next
 pub read_page-part-requires-clause-page : goal.read_page-part-requires-clause-page
 read_page-part-requires-clause-page c =
-    (first_readable c.self.inside.memory.now c.self.inside.links.now c.self.inside.page c.self.inside.left c.self.invariant (omega (arith, c.if-self-eq0.false))).1
+    (first_readable c.self.inside.memory.now c.self.inside.links.now c.self.inside.page c.self.inside.left c.self.invariant
+    (omega (arith, c.if-self-eq0.false))).1
 
 pub invariant_of-self : goal.invariant_of-self
 invariant_of-self c =
@@ -38,4 +39,5 @@ returns-clause-goes c =
 
 pub bounds-self-inside-self-inside : goal.bounds-self-inside-self-inside
 bounds-self-inside-self-inside c =
-    (first_readable c.self.inside.memory.now c.self.inside.links.now c.self.inside.page c.self.inside.left c.self.invariant (omega (arith, c.if-self-eq0.false))).0
+    (first_readable c.self.inside.memory.now c.self.inside.links.now c.self.inside.page c.self.inside.left c.self.invariant
+    (omega (arith, c.if-self-eq0.false))).0

@@ -12,53 +12,78 @@ returns-then-number-eq0 c bytes here =
 
 pub index-requires : goal.index-requires
 index-requires c =
-    omega (arith, live_below _ _ _ _ _ c.self.invariant.sound c.args.self.now c.args.span c.number-number.result c.self.view_is c.number-number.ensures c.if-number-eq0.false c.requires, c.self.invariant.sound.lengths_length, c.self.inside.lengths.ok)
+    omega (
+      arith,
+      live_below _ _ _ _ _ c.self.invariant.sound c.args.self.now c.args.span c.number-number.result c.self.view_is
+          c.number-number.ensures c.if-number-eq0.false c.requires,
+      c.self.invariant.sound.lengths_length,
+      c.self.inside.lengths.ok,
+    )
 
 pub overflow_sub-needed : goal.overflow_sub-needed
 overflow_sub-needed c =
-    needed_some _ _ _ _ _ c.self.invariant.sound c.args.self.now c.args.span c.number-number.result c.self.view_is c.number-number.ensures c.if-number-eq0.false c.requires
+    needed_some _ _ _ _ _ c.self.invariant.sound c.args.self.now c.args.span c.number-number.result c.self.view_is c.number-number.ensures
+    c.if-number-eq0.false c.requires
     c.index.result.now c.pages_of-needed.result c.index.ensures c.pages_of-needed.ensures
 
 pub follow-last-requires : goal.follow-last-requires
 follow-last-requires c =
-    freed_within _ _ _ _ _ c.self.invariant.sound c.args.self.now c.args.span c.number-number.result c.self.view_is c.number-number.ensures c.if-number-eq0.false c.requires
+    freed_within _ _ _ _ _ c.self.invariant.sound c.args.self.now c.args.span c.number-number.result c.self.view_is c.number-number.ensures
+    c.if-number-eq0.false c.requires
     c.index.result.now c.pages_of-needed.result c.index.ensures c.pages_of-needed.ensures c.deref.result.now c.deref.ensures.value
 
 pub index_mut-requires : goal.index_mut-requires
 index_mut-requires c =
     omega (
       arith,
-      freed_last _ _ _ _ _ c.self.invariant.sound c.args.self.now c.args.span c.number-number.result c.self.view_is c.number-number.ensures c.if-number-eq0.false c.requires
-          c.index.result.now c.pages_of-needed.result c.index.ensures c.pages_of-needed.ensures c.deref.result.now c.deref.ensures.value c.follow-last.result c.follow-last.ensures,
+      freed_last _ _ _ _ _ c.self.invariant.sound c.args.self.now c.args.span c.number-number.result c.self.view_is c.number-number.ensures
+          c.if-number-eq0.false c.requires
+          c.index.result.now c.pages_of-needed.result c.index.ensures c.pages_of-needed.ensures c.deref.result.now c.deref.ensures.value
+          c.follow-last.result c.follow-last.ensures,
       c.self.inside.next.ok,
     )
 
 pub index_mut-requires-2 : goal.index_mut-requires-2
 index_mut-requires-2 c =
-    omega (arith, live_below _ _ _ _ _ c.self.invariant.sound c.args.self.now c.args.span c.number-number.result c.self.view_is c.number-number.ensures c.if-number-eq0.false c.requires, c.self.invariant.sound.lengths_length, c.self.inside.lengths.ok)
+    omega (
+      arith,
+      live_below _ _ _ _ _ c.self.invariant.sound c.args.self.now c.args.span c.number-number.result c.self.view_is
+          c.number-number.ensures c.if-number-eq0.false c.requires,
+      c.self.invariant.sound.lengths_length,
+      c.self.inside.lengths.ok,
+    )
 
 pub overflow_cast-self : goal.overflow_cast-self
 overflow_cast-self c =
     let after =
-    freed_sound _ _ _ _ _ c.self.invariant.sound c.args.self.now c.args.span c.number-number.result c.self.view_is c.number-number.ensures c.if-number-eq0.false c.requires
-    c.index.result.now c.pages_of-needed.result c.index.ensures c.pages_of-needed.ensures c.deref.result.now c.deref.ensures.value c.follow-last.result c.follow-last.ensures in
+    freed_sound _ _ _ _ _ c.self.invariant.sound c.args.self.now c.args.span c.number-number.result c.self.view_is c.number-number.ensures
+    c.if-number-eq0.false c.requires
+    c.index.result.now c.pages_of-needed.result c.index.ensures c.pages_of-needed.ensures c.deref.result.now c.deref.ensures.value
+    c.follow-last.result c.follow-last.ensures in
     omega (arith, after.counted, after.few)
 
 pub overflow_add-self : goal.overflow_add-self
 overflow_add-self c =
     let after =
-    freed_sound _ _ _ _ _ c.self.invariant.sound c.args.self.now c.args.span c.number-number.result c.self.view_is c.number-number.ensures c.if-number-eq0.false c.requires
-    c.index.result.now c.pages_of-needed.result c.index.ensures c.pages_of-needed.ensures c.deref.result.now c.deref.ensures.value c.follow-last.result c.follow-last.ensures in
+    freed_sound _ _ _ _ _ c.self.invariant.sound c.args.self.now c.args.span c.number-number.result c.self.view_is c.number-number.ensures
+    c.if-number-eq0.false c.requires
+    c.index.result.now c.pages_of-needed.result c.index.ensures c.pages_of-needed.ensures c.deref.result.now c.deref.ensures.value
+    c.follow-last.result c.follow-last.ensures in
     omega (arith, after.counted, after.few)
 
 pub invariant_of-self : goal.invariant_of-self
 invariant_of-self c = record {
   room = omega (arith, c.self.invariant.room, length-set c.self.inside.next.items c.follow-last.result c.self.inside.free);
-  sound = freed_sound _ _ _ _ _ c.self.invariant.sound c.args.self.now c.args.span c.number-number.result c.self.view_is c.number-number.ensures c.if-number-eq0.false c.requires
-      c.index.result.now c.pages_of-needed.result c.index.ensures c.pages_of-needed.ensures c.deref.result.now c.deref.ensures.value c.follow-last.result c.follow-last.ensures;
+  sound =
+      freed_sound _ _ _ _ _ c.self.invariant.sound c.args.self.now c.args.span c.number-number.result c.self.view_is c.number-number.ensures
+      c.if-number-eq0.false c.requires
+      c.index.result.now c.pages_of-needed.result c.index.ensures c.pages_of-needed.ensures c.deref.result.now c.deref.ensures.value
+      c.follow-last.result c.follow-last.ensures;
 }
 
 pub returns : goal.returns
 returns c =
-    freed_adds _ _ _ _ _ c.self.invariant.sound c.args.self.now c.args.span c.number-number.result c.self.view_is c.number-number.ensures c.if-number-eq0.false c.requires
-    c.index.result.now c.pages_of-needed.result c.index.ensures c.pages_of-needed.ensures c.deref.result.now c.deref.ensures.value c.follow-last.result c.follow-last.ensures
+    freed_adds _ _ _ _ _ c.self.invariant.sound c.args.self.now c.args.span c.number-number.result c.self.view_is c.number-number.ensures
+    c.if-number-eq0.false c.requires
+    c.index.result.now c.pages_of-needed.result c.index.ensures c.pages_of-needed.ensures c.deref.result.now c.deref.ensures.value
+    c.follow-last.result c.follow-last.ensures

@@ -1,7 +1,7 @@
 use Rattle.std.proofs.Common.{◌≡◌, ℕ, ◌<◌, ◌≤◌, List, slice_index, replicate, ap, ◌∙◌, arith, inl, inr, ◌⊎◌}
 use Rattle.std.proofs.lemmas.Bool.{cases_lt}
 use Rattle.std.proofs.lemmas.List.{get_or-replicate, get_or_past, length-replicate}
-use Rattle.dl_pool.proofs.NewLemmas.{new_sound, new_held}
+use Rattle.dl_pool.proofs.NewLemmas.{new_sound, new_pool}
 use Rattle.dl_pool.proofs.pool.Pool.new.Goals as goal
 
 zeros : (n : ℕ) (xs : List ℕ) → xs ≡ replicate n 0 → (k : ℕ) → slice_index xs k ≡ 0
@@ -21,6 +21,6 @@ invariant_of-result c = record {
 
 pub returns : goal.returns
 returns c =
-    new_held c.in_ok-next.next.items c.args.pages c.in_ok-next.ensures.each c.in_ok-memory.memory.items c.in_ok-lengths.lengths.items
+    new_pool c.in_ok-next.next.items c.args.pages c.in_ok-next.ensures.each c.in_ok-memory.memory.items c.in_ok-lengths.lengths.items
     (zeros c.args.pages c.in_ok-lengths.lengths.items (c.in_ok-lengths.ensures.items_if_clones_equal (λ y e. e)))
     c.in_ok-next.ensures.size

@@ -17,22 +17,26 @@ pub index-requires : goal.index-requires
 index-requires c =
     omega (
       arith,
-      live_below _ _ _ _ _ c.self.invariant.sound c.args.self.now c.args.span.now c.number-number.result c.self.view_is c.number-number.ensures c.if-number-eq0.false c.requires,
+      live_below _ _ _ _ _ c.self.invariant.sound c.args.self.now c.args.span.now c.number-number.result c.self.view_is c.number-number.ensures
+          c.if-number-eq0.false c.requires,
       c.self.invariant.sound.lengths_length,
       c.self.inside.lengths.ok,
     )
 
 pub new-requires-2 : goal.new-requires-2
 new-requires-2 c =
-    live_readable _ _ _ _ _ c.self.invariant.sound c.args.self.now c.args.span.now c.number-number.result c.self.view_is c.number-number.ensures c.if-number-eq0.false c.requires
+    live_readable _ _ _ _ _ c.self.invariant.sound c.args.self.now c.args.span.now c.number-number.result c.self.view_is c.number-number.ensures
+    c.if-number-eq0.false c.requires
     c.deref-2.result.now c.deref-3.result.now c.index.result.now c.deref-2.ensures.value c.deref-3.ensures.value c.index.ensures
 
 pub returns-clause-joined : goal.returns-clause-joined
 returns-clause-joined c =
-    live_joined _ _ _ _ _ c.self.invariant.sound c.args.self.now c.args.span.now c.number-number.result c.self.view_is c.number-number.ensures c.if-number-eq0.false c.requires
+    live_joined _ _ _ _ _ c.self.invariant.sound c.args.self.now c.args.span.now c.number-number.result c.self.view_is c.number-number.ensures
+    c.if-number-eq0.false c.requires
     c.deref-2.result.now c.deref-3.result.now c.index.result.now c.deref-2.ensures.value c.deref-3.ensures.value c.index.ensures c.new-2.result c.new-2.ensures
 
 pub returns-clause-pages : goal.returns-clause-pages
 returns-clause-pages c =
-    live_pages _ _ _ _ _ c.self.invariant.sound c.args.self.now c.args.span.now c.number-number.result c.self.view_is c.number-number.ensures c.if-number-eq0.false c.requires
+    live_pages _ _ _ _ _ c.self.invariant.sound c.args.self.now c.args.span.now c.number-number.result c.self.view_is c.number-number.ensures
+    c.if-number-eq0.false c.requires
     c.deref-2.result.now c.deref-3.result.now c.index.result.now c.deref-2.ensures.value c.deref-3.ensures.value c.index.ensures c.new-2.result c.new-2.ensures
