@@ -7,23 +7,23 @@ use Rattle.dl_text.specs.Readers.{shared_length, ◌>>=◌, Exact, whole_field, 
 use Rattle.dl_text.specs.Columns.{IsColumn, StopsAt, column_of, ReadsWhole}
 use Rattle.dl_text.proofs.ReaderLemmas.{shared-append, shared-cons, shared-differ, begins, one_way, ok_is, bind_ok, bind_err}
 
--- a field with nothing left behind it is the whole text's value
-ended_ok_go : {A : Type 0} (x : A × List ℕ) (a : A) (t : Bool) → eqb (length x.1) 0 ≡ t → cond t (Ok x.0) (Err (length x.1)) ≡ Ok a → (x.0 ≡ a) × (x.1 ≡ [])
-ended_ok_go x a true e h = (ok_is {B = ℕ} x.0 a h, nil_from_length x.1 (eqb-true _ _ e))
-ended_ok_go x a false e h = absurd cc
+-- where a field is read as the whole text, it is the value, and nothing is left behind it
+whole_ok_go : {A : Type 0} (x : A × List ℕ) (a : A) (t : Bool) → eqb (length x.1) 0 ≡ t → cond t (Ok x.0) (Err (length x.1)) ≡ Ok a → (x.0 ≡ a) × (x.1 ≡ [])
+whole_ok_go x a true e h = (ok_is {B = ℕ} x.0 a h, nil_from_length x.1 (eqb-true _ _ e))
+whole_ok_go x a false e h = absurd cc
 
--- a field with bytes behind it stops a reading of the whole text with these bytes left
-ended_err_go : {A : Type 0} (x : A × List ℕ) (left : ℕ) (t : Bool) → eqb (length x.1) 0 ≡ t → cond {A = Result A ℕ} t (Ok x.0) (Err (length x.1)) ≡ Err left
+-- where a field is not read as the whole text, all that stands behind it is left
+whole_err_go : {A : Type 0} (x : A × List ℕ) (left : ℕ) (t : Bool) → eqb (length x.1) 0 ≡ t → cond {A = Result A ℕ} t (Ok x.0) (Err (length x.1)) ≡ Err left
     → length x.1 ≡ left
-ended_err_go x left true e h = absurd cc
-ended_err_go x left false e h = cc
+whole_err_go x left true e h = absurd cc
+whole_err_go x left false e h = cc
 
 -- a whole text that an exact reader reads is valid, and spelt so
 pub whole_found : {A : Type 0} {V : A → Type 0} {p : A → List ℕ} {r : List ℕ → Result (A × List ℕ) ℕ} → Exact V p r → (bytes : List ℕ) (a : A)
     → whole_at r bytes ≡ Ok a → V a × (bytes ≡ p a)
 whole_found {A} {V} {p} {r} exact bytes a e =
     let u = bind_ok (r bytes) whole_field a e in
-    let k = ended_ok_go u.0 a (eqb (length u.0.1) 0) refl u.2 in
+    let k = whole_ok_go u.0 a (eqb (length u.0.1) 0) refl u.2 in
     let f = exact.found bytes u.0.0 u.0.1 u.1 in
     let text : bytes ≡ p u.0.0 = f.1 ∙ ap (λ (t : List ℕ). p u.0.0 ++ t) k.1 ∙ append-nil (p u.0.0) in
     let P : A → Type 0 = λ x. V x × (bytes ≡ p x) in
@@ -72,7 +72,7 @@ whole_column {A} {V} {p} {r} exact bytes left column e place = elim (bind_err (r
       record { goes_on = (n.0, n.1, omega (arith, n.2)); no_further = λ a v. omega (arith, exact.far bytes left h a v) }
   | inr w ↦
       let f = exact.found bytes w.0.0 w.0.1 w.1 in
-      let size = ended_err_go w.0 left (eqb (length w.0.1) 0) refl w.2 in
+      let size = whole_err_go w.0 left (eqb (length w.0.1) 0) refl w.2 in
       let long : length bytes ≡ length (p w.0.0) + length w.0.1 = ap length f.1 ∙ length-append (p w.0.0) w.0.1 in
       let here : shared_length bytes (p w.0.0) ≡ length (p w.0.0) = shared_front bytes (p w.0.0) w.0.1 f.1 in
       record {
@@ -88,7 +88,7 @@ whole_left {A} {V} {p} {r} exact bytes left e = elim (bind_err (r bytes) whole_f
   | inl h ↦ let n = exact.near bytes left h in omega (arith, n.2)
   | inr w ↦
       let f = exact.found bytes w.0.0 w.0.1 w.1 in
-      let size = ended_err_go w.0 left (eqb (length w.0.1) 0) refl w.2 in
+      let size = whole_err_go w.0 left (eqb (length w.0.1) 0) refl w.2 in
       omega (arith, ap length f.1 ∙ length-append (p w.0.0) w.0.1, size)
 ]
 
