@@ -21,13 +21,13 @@ word_number text end n = text ++ number end n
 abbrev pub two_numbers : List ℕ → ℕ → List ℕ → ℕ → List ℕ
 two_numbers first one second other = word_number first space one ++ word_number second line_feed other
 
--- a limit that was passed
+-- what a note says of a limit that was passed
 abbrev pub limit_past : LimitName → ℕ → List ℕ
 limit_past name n = codes "limit: " ++ limit_text name ++ word_number (codes " ") line_feed n
 
--- an order that was refused
-abbrev pub refused : Refusal → List ℕ
-refused r = codes "refused: " ++ refusal_field r
+-- what a note says of a refusal
+abbrev pub refusal_note : Refusal → List ℕ
+refusal_note r = codes "refused: " ++ refusal_field r
 
 -- what a note says of a status, to the end of its line
 abbrev pub note_text : Status → List ℕ
@@ -41,7 +41,7 @@ note_text status.NotInitialised = codes "not initialised\n"
 note_text (status.Damaged file at) = two_numbers (codes "damaged: ") file (codes "at ") at
 note_text status.NoStream = codes "no stream\n"
 note_text status.StreamExists = codes "stream exists\n"
-note_text (status.Refused refusal) = refused refusal
+note_text (status.Refused refusal) = refusal_note refusal
 note_text (status.Unavailable need have) = two_numbers (codes "unavailable: need ") need (codes "have ") have
 note_text (status.Limit name n) = limit_past name n
 note_text status.NoMemory = codes "no memory\n"

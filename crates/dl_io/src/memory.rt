@@ -1,6 +1,8 @@
 ghost use Rattle.std.specs.Prelude.{◌≡◌, ◌≤◌, min, length, Contains, IfOk, IsErr, ◌↔◌, MatchResult};
 ghost use Rattle.dl_io.specs.Causes.{next_count};
-ghost use Rattle.dl_io.specs.Memory.{source_view, new_source, after_take, after_failed_take, sink_view, new_sink, after_give, after_finish, after_failure};
+ghost use Rattle.dl_io.specs.Memory.{source_view, new_source, after_take};
+ghost use Rattle.dl_io.specs.Memory.{after_failed_take, sink_view};
+ghost use Rattle.dl_io.specs.Memory.{new_sink, after_give, after_finish, after_failure};
 ghost use Rattle.dl_io.specs.Sinks.{Finishes, Gives};
 ghost use Rattle.dl_io.specs.Sources.{Takes};
 

@@ -3,7 +3,8 @@ ghost use Rattle.dl_text.specs.Ends.{space, colon, line_feed};
 ghost use Rattle.dl_text.specs.Numbers.{number};
 ghost use Rattle.dl_text.specs.Fields.{bytes_field, place_field};
 ghost use Rattle.dl_text.specs.Refusals.{refusal_rest, refusal_field};
-ghost use Rattle.dl_io.specs.Notes.{Notes, note_line, note_text, word_number, two_numbers, limit_past, refused};
+ghost use Rattle.dl_io.specs.Notes.{Notes, note_line, note_text, word_number};
+ghost use Rattle.dl_io.specs.Notes.{two_numbers, limit_past, refusal_note};
 ghost use Rattle.dl_io.specs.Sinks.{Writes, WritesOut};
 
 use crate::traits::{Sink, WriteFailed};
@@ -134,7 +135,7 @@ fn write_refusal<K: Sink>(sink: &mut K, refusal: &Refusal) -> Result<(), WriteFa
 
 /// Gives what a note says of a refusal, to the end of the line.
 fn write_refused<K: Sink>(sink: &mut K, refusal: &Refusal) -> Result<(), WriteFailed>
-    ensures { Writes (K.view sink.old) (K.view sink.new) (refused refusal.now) result }
+    ensures { Writes (K.view sink.old) (K.view sink.new) (refusal_note refusal.now) result }
 {
     write_all(sink, b"refused: ")?;
     write_refusal(sink, refusal)

@@ -5,12 +5,15 @@ use Rattle.std.proofs.lemmas.Fmt.{decimal_digit}
 use Rattle.dl_schedule.specs.declared.opening.Opening.TheVariants as opening
 use Rattle.dl_schedule.specs.EarlyLines.{opening_text}
 
+-- 0 is spelt by one digit
 zero_text : decimal 0 ≡ 48 ∷ []
 zero_text = decimal_digit 0 (lit< tt)
 
+-- 2 is spelt by one digit
 two_text : decimal 2 ≡ 50 ∷ []
 two_text = decimal_digit 2 (lit< tt)
 
+-- 3 is spelt by one digit
 three_text : decimal 3 ≡ 51 ∷ []
 three_text = decimal_digit 3 (lit< tt)
 

@@ -8,20 +8,20 @@ use Rattle.dl_types.specs.declared.client.TheConstants.{MAX_CLIENT}
 use Rattle.dl_types.specs.declared.start.Start.{Start}
 use Rattle.dl_types.specs.declared.start.Start.TheVariants as start
 use Rattle.dl_types.specs.declared.txid.TheConstants.{MAX_TXID}
-use Rattle.dl_text.specs.Numbers.{number, IsWithin, most_u32, most_u64}
+use Rattle.dl_text.specs.Numbers.{number, IsWithin, most_u64}
 use Rattle.dl_text.specs.Hex.{hex, AllBytes}
 use Rattle.dl_text.specs.Fields.{bytes_field, place_field}
 use Rattle.dl_text.specs.NameFields.{IsName}
 use Rattle.dl_text.specs.PlaceFields.{IsPlaceFrom}
 use Rattle.dl_text.specs.ListFields.{list_field, AreUpTo}
-use Rattle.dl_schedule.specs.declared.bookie_count.TheConstants.{MAX_BOOKIES}
-use Rattle.dl_schedule.specs.declared.device_step.TheConstants.{COMMIT_CALLS}
-use Rattle.dl_schedule.specs.declared.row_count.TheConstants.{MAX_ROWS}
+use Rattle.dl_schedule.specs.declared.up_to.TheConstants.{MAX_BOOKIES, COMMIT_CALLS, MAX_ROWS, MAX_MESSAGE}
 use Rattle.dl_schedule.specs.declared.node.Node.{Node}
 use Rattle.dl_schedule.specs.declared.node.Node.TheVariants as node
 use Rattle.dl_schedule.specs.declared.step.TheConstants.{MAX_SET}
 use Rattle.dl_schedule.specs.declared.step.Step.{Step}
-use Rattle.dl_schedule.specs.declared.step.Step.TheVariants.{Setup, Join, Crash, Expire, Create, Remove, Open, Recover, Purge, Append, Set, Flush, Commit, Close, SeekOldest, SeekPlace, SeekTxid, Read, Truncate, Deliver, Sync, Lose, Stop, StopMeta, Kill, Up, Settle, Mail}
+use Rattle.dl_schedule.specs.declared.step.Step.TheVariants.{Setup, Join, Crash, Expire, Create, Remove, Open, Recover, Purge, Append}
+use Rattle.dl_schedule.specs.declared.step.Step.TheVariants.{Set, Flush, Commit, Close, SeekOldest, SeekPlace, SeekTxid, Read, Truncate}
+use Rattle.dl_schedule.specs.declared.step.Step.TheVariants.{Deliver, Sync, Lose, Stop, StopMeta, Kill, Up, Settle, Mail}
 use Rattle.dl_schedule.specs.declared.words.FirstWord.{FirstWord}
 use Rattle.dl_schedule.specs.declared.words.FirstWord.TheVariants as word
 use Rattle.dl_schedule.specs.declared.words.StartWord.{StartWord}
@@ -170,7 +170,7 @@ IsTxid t = IsWithin 0 MAX_TXID t
 
 -- the number of a message on its link
 abbrev pub IsNumber : ℕ → Type 0
-IsNumber n = IsWithin 1 most_u32 n
+IsNumber n = IsWithin 1 MAX_MESSAGE n
 
 -- a device call of a commit
 abbrev pub IsCall : ℕ → Type 0

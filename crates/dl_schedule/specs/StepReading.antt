@@ -9,20 +9,20 @@ use Rattle.dl_types.specs.declared.start.Start.TheVariants as start
 use Rattle.dl_types.specs.declared.txid.TheConstants.{MAX_TXID}
 use Rattle.dl_text.specs.Readers.{then_at, map_at, whole_at}
 use Rattle.dl_text.specs.Columns.{column_of}
-use Rattle.dl_text.specs.Numbers.{number_at, most_u32, most_u64}
+use Rattle.dl_text.specs.Numbers.{number_at, most_u64}
 use Rattle.dl_text.specs.Hex.{hex_at, end_at}
 use Rattle.dl_text.specs.NameFields.{name_at}
 use Rattle.dl_text.specs.PlaceFields.{place_at}
 use Rattle.dl_text.specs.ListFields.{list_at}
 use Rattle.dl_text.specs.Words.{words_from}
-use Rattle.dl_schedule.specs.declared.bookie_count.TheConstants.{MAX_BOOKIES}
-use Rattle.dl_schedule.specs.declared.device_step.TheConstants.{COMMIT_CALLS}
-use Rattle.dl_schedule.specs.declared.row_count.TheConstants.{MAX_ROWS}
+use Rattle.dl_schedule.specs.declared.up_to.TheConstants.{MAX_BOOKIES, COMMIT_CALLS, MAX_ROWS, MAX_MESSAGE}
 use Rattle.dl_schedule.specs.declared.node.Node.{Node}
 use Rattle.dl_schedule.specs.declared.node.Node.TheVariants as node
 use Rattle.dl_schedule.specs.declared.step.TheConstants.{MAX_SET}
 use Rattle.dl_schedule.specs.declared.step.Step.{Step}
-use Rattle.dl_schedule.specs.declared.step.Step.TheVariants.{Setup, Join, Crash, Expire, Create, Remove, Open, Recover, Purge, Append, Set, Flush, Commit, Close, SeekOldest, SeekPlace, SeekTxid, Read, Truncate, Deliver, Sync, Lose, Stop, StopMeta, Kill, Up, Settle, Mail}
+use Rattle.dl_schedule.specs.declared.step.Step.TheVariants.{Setup, Join, Crash, Expire, Create, Remove, Open, Recover, Purge, Append}
+use Rattle.dl_schedule.specs.declared.step.Step.TheVariants.{Set, Flush, Commit, Close, SeekOldest, SeekPlace, SeekTxid, Read, Truncate}
+use Rattle.dl_schedule.specs.declared.step.Step.TheVariants.{Deliver, Sync, Lose, Stop, StopMeta, Kill, Up, Settle, Mail}
 use Rattle.dl_schedule.specs.declared.words.FirstWord.{FirstWord}
 use Rattle.dl_schedule.specs.declared.words.FirstWord.TheVariants as word
 use Rattle.dl_schedule.specs.declared.words.StartWord.{StartWord}
@@ -56,7 +56,7 @@ txid_at = number_at 0 MAX_TXID
 
 -- the number of a message on its link
 abbrev pub message_at : ℕ → List ℕ → Result (ℕ × List ℕ) ℕ
-message_at = number_at 1 most_u32
+message_at = number_at 1 MAX_MESSAGE
 
 -- a device call of a commit, and whether its work is kept
 abbrev pub call_at : List ℕ → Result ((ℕ × Bool) × List ℕ) ℕ
@@ -76,6 +76,7 @@ address_at end letters = map_at (λ (first, a). a) (then_at (words_from node_tex
 abbrev pub letters : List NodeWord
 letters = letter.Client ∷ letter.Bookie ∷ letter.Meta ∷ []
 
+-- the letters of the nodes: bookies and the metadata node
 abbrev pub node_letters : List NodeWord
 node_letters = letter.Bookie ∷ letter.Meta ∷ []
 
@@ -120,35 +121,43 @@ seek_step c s start.Oldest = SeekOldest c s
 seek_step c s (start.Place d) = SeekPlace c s d
 seek_step c s (start.Tx t) = SeekTxid c s t
 
+-- a setup: the number of bookies, the ensemble, the write quorum and the ack quorum
 abbrev pub setup_at : List ℕ → Result (Step × List ℕ) ℕ
 setup_at =
     map_at (λ (b, (e, (w, a))). Setup b e w a)
     (then_at (count_at space) (λ b. then_at (count_at space) (λ e. then_at (count_at space) (λ w. count_at line_feed))))
 
+-- an expiry: the number of the session
 abbrev pub expire_at : List ℕ → Result (Step × List ℕ) ℕ
 expire_at = map_at Expire (number_at 1 most_u64 line_feed)
 
+-- an append: the client, the transaction id and the payload
 abbrev pub append_at : List ℕ → Result (Step × List ℕ) ℕ
 append_at =
     map_at (λ (client, (txid, payload)). Append client txid payload)
     (then_at (client_at space) (λ client. then_at (txid_at space) (λ txid. hex_at line_feed)))
 
+-- a set: the client, the transaction id and its payloads
 abbrev pub set_at : List ℕ → Result (Step × List ℕ) ℕ
 set_at =
     map_at (λ (client, (txid, payloads)). Set client txid payloads)
     (then_at (client_at space) (λ client. then_at (txid_at space) (λ txid. list_at hex_at (MAX_SET - 1))))
 
+-- a seek: the client, the stream and where its reader begins
 abbrev pub seek_at : List ℕ → Result (Step × List ℕ) ℕ
 seek_at = map_at (λ (client, (stream, x)). seek_step client stream x) (then_at (client_at space) (λ client. then_at (name_at space) (λ stream. start_at)))
 
+-- a read: the client and how many rows
 abbrev pub read_at : List ℕ → Result (Step × List ℕ) ℕ
 read_at = map_at (λ (client, rows). Read client rows) (then_at (client_at space) (λ client. number_at 1 MAX_ROWS line_feed))
 
+-- a truncation: the client, the stream and the place
 abbrev pub truncate_at : List ℕ → Result (Step × List ℕ) ℕ
 truncate_at =
     map_at (λ (client, (stream, d)). Truncate client stream d)
     (then_at (client_at space) (λ client. then_at (name_at space) (λ stream. place_at 1 line_feed)))
 
+-- a delivery: the ends of the link and the number of the message
 abbrev pub deliver_at : List ℕ → Result (Step × List ℕ) ℕ
 deliver_at =
     map_at (λ (from, (to, n)). Deliver from to n)
@@ -158,9 +167,11 @@ deliver_at =
 abbrev pub one_bookie : (ℕ → Step) → List ℕ → Result (Step × List ℕ) ℕ
 one_bookie make = map_at make (bookie_at line_feed)
 
+-- a stop of a bookie: the bookie, the device call and whether its work is kept
 abbrev pub stop_at : List ℕ → Result (Step × List ℕ) ℕ
 stop_at = map_at (λ (b, (call, kept)). Stop b call kept) (then_at (bookie_at space) (λ b. call_at))
 
+-- a stop of the metadata node: the client and the number of its message, the device call and whether its work is kept
 abbrev pub stop_meta_at : List ℕ → Result (Step × List ℕ) ℕ
 stop_meta_at =
     map_at (λ (client, (n, (call, kept))). StopMeta client n call kept)

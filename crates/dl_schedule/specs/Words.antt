@@ -1,7 +1,9 @@
 -- The words of a closed list that stand in lines; where a byte always ends one, it stands with it.
 use Rattle.std.specs.Prelude.{ℕ, List, [], ◌∷◌, codes}
 use Rattle.dl_schedule.specs.declared.words.FirstWord.{FirstWord}
-use Rattle.dl_schedule.specs.declared.words.FirstWord.TheVariants.{Setup, Join, Crash, Expire, Create, Remove, Open, Recover, Purge, Append, Set, Flush, Commit, Close, Seek, Read, Truncate, Deliver, Sync, Lose, Stop, StopMeta, Kill, Up, Settle, Mail}
+use Rattle.dl_schedule.specs.declared.words.FirstWord.TheVariants.{Setup, Join, Crash, Expire, Create, Remove, Open, Recover, Purge}
+use Rattle.dl_schedule.specs.declared.words.FirstWord.TheVariants.{Append, Set, Flush, Commit, Close, Seek, Read, Truncate, Deliver}
+use Rattle.dl_schedule.specs.declared.words.FirstWord.TheVariants.{Sync, Lose, Stop, StopMeta, Kill, Up, Settle, Mail}
 use Rattle.dl_schedule.specs.declared.words.StartWord.{StartWord}
 use Rattle.dl_schedule.specs.declared.words.StartWord.TheVariants as start
 use Rattle.dl_schedule.specs.declared.words.NodeWord.{NodeWord}
@@ -38,8 +40,9 @@ first_text Mail = codes "mail\n"
 
 -- all first words
 abbrev pub first_words : List FirstWord
-first_words = Setup ∷ Join ∷ Crash ∷ Expire ∷ Create ∷ Remove ∷ Open ∷ Recover ∷ Purge ∷ Append ∷ Set ∷ Flush ∷ Commit ∷ Close ∷ Seek ∷ Read ∷ Truncate ∷ Deliver ∷ Sync ∷ Lose
-    ∷ Stop ∷ StopMeta ∷ Kill ∷ Up ∷ Settle ∷ Mail ∷ []
+first_words =
+    Setup ∷ Join ∷ Crash ∷ Expire ∷ Create ∷ Remove ∷ Open ∷ Recover ∷ Purge ∷ Append ∷ Set ∷ Flush ∷ Commit ∷ Close ∷ Seek ∷ Read ∷ Truncate ∷ Deliver
+    ∷ Sync ∷ Lose ∷ Stop ∷ StopMeta ∷ Kill ∷ Up ∷ Settle ∷ Mail ∷ []
 
 -- where a reader is put; the word that is the line's last ends in a line feed
 abbrev pub start_text : StartWord → List ℕ

@@ -4,12 +4,14 @@ ghost use Rattle.dl_text.specs.Readers.{Gives};
 ghost use Rattle.dl_schedule.specs.declared.step.Step.{Step};
 ghost use Rattle.dl_schedule.specs.StepLines.{step_line};
 ghost use Rattle.dl_schedule.specs.EarlyLines.{opening_step, opening_at, IsEarly};
-ghost use Rattle.dl_schedule.specs.EarlyReading.{only_client_at, free_append_at, free_flush_at, free_rest_at, free_at, fixed_at, said_at, early_at};
+ghost use Rattle.dl_schedule.specs.EarlyReading.{only_client_at, free_append_at};
+ghost use Rattle.dl_schedule.specs.EarlyReading.{free_flush_at, free_rest_at, free_at};
+ghost use Rattle.dl_schedule.specs.EarlyReading.{fixed_at, said_at, early_at};
 ghost use Rattle.dl_schedule.specs.Faults.{IsBadAt, ReadsAs, Parses, parsed_early};
 
-use crate::bookie_count::BookieCount;
 use crate::opening::Opening;
 use crate::step::Step;
+use crate::up_to::BookieCount;
 use crate::words::FirstWord;
 use dl_text::hex::hex_of;
 use dl_text::number::number_of;

@@ -3,14 +3,15 @@ ghost use Rattle.dl_types.specs.declared.bookie.TheConstants.{MAX_BOOKIE};
 ghost use Rattle.dl_types.specs.declared.client.TheConstants.{MAX_CLIENT};
 ghost use Rattle.dl_text.specs.Readers.{Gives};
 ghost use Rattle.dl_text.specs.NameFields.{IsName};
-ghost use Rattle.dl_schedule.specs.declared.bookie_count.TheConstants.{MAX_BOOKIES};
-ghost use Rattle.dl_schedule.specs.declared.device_step.TheConstants.{COMMIT_CALLS};
+ghost use Rattle.dl_schedule.specs.declared.up_to.TheConstants.{MAX_BOOKIES, COMMIT_CALLS};
 ghost use Rattle.dl_schedule.specs.StepLines.{space};
-ghost use Rattle.dl_schedule.specs.StepReading.{client_at, bookie_at, count_at, call_at, address_rest_at, address_at, other_letters, node_of, node_at, start_rest_at, start_at};
+ghost use Rattle.dl_schedule.specs.StepReading.{client_at, bookie_at, count_at};
+ghost use Rattle.dl_schedule.specs.StepReading.{call_at, address_rest_at};
+ghost use Rattle.dl_schedule.specs.StepReading.{address_at, other_letters};
+ghost use Rattle.dl_schedule.specs.StepReading.{node_of, node_at, start_rest_at, start_at};
 
-use crate::bookie_count::MAX_BOOKIES;
-use crate::device_step::COMMIT_CALLS;
 use crate::node::Node;
+use crate::up_to::{COMMIT_CALLS, MAX_BOOKIES};
 use crate::words::{NodeWord, StartWord};
 use dl_text::hex::end_of;
 use dl_text::number::number_of;
@@ -48,14 +49,13 @@ pub fn bookie_of(end: u8, bytes: &[u8]) -> Result<(u8, &[u8]), Stop>
 }
 
 /// A number of bookies.
-pub fn count_of(end: u8, bytes: &[u8]) -> Result<(u8, &[u8]), Stop>
+pub fn count_of(end: u8, bytes: &[u8]) -> Result<(u64, &[u8]), Stop>
     requires { end < 48 }
     ensures exact { Gives (λ x. (x.0, x.1.now)) result (count_at end bytes.now) }
     ensures some { IfOk result (λ x. 1 ≤ x.0) }
     ensures most { IfOk result (λ x. x.0 ≤ MAX_BOOKIES) }
 {
-    let (count, rest) = number_of(1, u64::from(MAX_BOOKIES), end, bytes)?;
-    Ok((count as u8, rest))
+    number_of(1, MAX_BOOKIES, end, bytes)
 }
 
 /// The name of these bytes. They are a name, so that only want of memory refuses it.
@@ -70,14 +70,14 @@ pub fn name_from(alloc: Global, bytes: &[u8]) -> Result<Name, NoMemory>
 }
 
 /// A device call of a commit and whether its work is kept, to the end of the line.
-pub fn call_of(bytes: &[u8]) -> Result<((u8, bool), &[u8]), Stop>
+pub fn call_of(bytes: &[u8]) -> Result<((u64, bool), &[u8]), Stop>
     ensures exact { Gives (λ x. (x.0, x.1.now)) result (call_at bytes.now) }
     ensures some { IfOk result (λ x. 1 ≤ x.0.0) }
     ensures most { IfOk result (λ x. x.0.0 ≤ COMMIT_CALLS) }
 {
-    let (call, rest) = number_of(1, u64::from(COMMIT_CALLS), b' ', bytes)?;
+    let (call, rest) = number_of(1, COMMIT_CALLS, b' ', bytes)?;
     let (bit, rest) = number_of(0, 1, b'\n', rest)?;
-    Ok(((call as u8, bit == 1), rest))
+    Ok(((call, bit == 1), rest))
 }
 
 /// An address behind its letter.
@@ -116,7 +116,8 @@ pub fn address_of<'a>(
 
 /// The other end of a link: a node where this end is a client, and a client where it is a node.
 pub fn other_end_of<'a>(from: &Address, bytes: &'a [u8]) -> Result<(Address, &'a [u8]), Stop>
-    ensures { Gives (λ x. (x.0, x.1.now)) result (address_at space (other_letters from.now) bytes.now) }
+    ensures { Gives (λ x. (x.0, x.1.now)) result
+        (address_at space (other_letters from.now) bytes.now) }
 {
     match from {
         Address::Client(_) => address_of(b' ', &NodeWord::NODES, bytes),

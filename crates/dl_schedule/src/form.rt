@@ -4,16 +4,16 @@ ghost use Rattle.dl_text.specs.Readers.{Gives, then_at};
 ghost use Rattle.dl_text.specs.NameFields.{IsName, name_at};
 ghost use Rattle.dl_schedule.specs.declared.step.Step.TheVariants as step;
 ghost use Rattle.dl_schedule.specs.StepLines.{space, line_feed};
-ghost use Rattle.dl_schedule.specs.StepReading.{client_at, one_client, client_stream, one_bookie, one_node, seek_step, setup_at, expire_at, append_at, set_at, seek_at, read_at, truncate_at, deliver_at, stop_at, stop_meta_at};
+ghost use Rattle.dl_schedule.specs.StepReading.{client_at, one_client, client_stream, one_bookie};
+ghost use Rattle.dl_schedule.specs.StepReading.{one_node, seek_step, setup_at, expire_at};
+ghost use Rattle.dl_schedule.specs.StepReading.{append_at, set_at, seek_at, read_at, truncate_at};
+ghost use Rattle.dl_schedule.specs.StepReading.{deliver_at, stop_at, stop_meta_at};
 
-use crate::bookie_count::BookieCount;
-use crate::device_step::DeviceStep;
 use crate::field::{
     address_of, bookie_of, call_of, client_of, count_of, name_from, node_of, other_end_of, start_of,
 };
-use crate::message_number::MessageNumber;
-use crate::row_count::{MAX_ROWS, RowCount};
 use crate::step::{MAX_SET, Step};
+use crate::up_to::{BookieCount, DeviceStep, MAX_MESSAGE, MAX_ROWS, MessageNumber, RowCount};
 use crate::words::NodeWord;
 use dl_text::hex::hex_of;
 use dl_text::name::name_of;
@@ -104,7 +104,8 @@ pub fn expire_of(bytes: &[u8]) -> Result<(Step, &[u8]), Stop>
 
 /// A client and a stream, to the end of the line.
 fn client_stream_of(bytes: &[u8]) -> Result<((u16, &[u8]), &[u8]), Stop>
-    ensures exact { Gives (λ x. ((x.0.0, x.0.1.now), x.1.now)) result (then_at (client_at space) (λ c. name_at line_feed) bytes.now) }
+    ensures exact { Gives (λ x. ((x.0.0, x.0.1.now), x.1.now)) result
+        (then_at (client_at space) (λ c. name_at line_feed) bytes.now) }
     ensures client { IfOk result (λ x. x.0.0 ≤ MAX_CLIENT) }
     ensures stream { IfOk result (λ x. IsName x.0.1.now) }
 {
@@ -236,9 +237,9 @@ pub fn read_of(bytes: &[u8]) -> Result<(Step, &[u8]), Stop>
     ensures { Gives (λ x. (x.0, x.1.now)) result (read_at bytes.now) }
 {
     let (client, rest) = client_of(b' ', bytes)?;
-    let (count, rest) = number_of(1, u64::from(MAX_ROWS), b'\n', rest)?;
+    let (count, rest) = number_of(1, MAX_ROWS, b'\n', rest)?;
     let client = ClientId::new(client);
-    let count = RowCount::new(count as u16);
+    let count = RowCount::new(count);
     Ok((Step::Read { client, count }, rest))
 }
 
@@ -274,8 +275,8 @@ pub fn deliver_of(bytes: &[u8]) -> Result<(Step, &[u8]), Stop>
         Ok(found) => found,
         Err(stop) => return Err(stop),
     };
-    let (number, rest) = number_of(1, u64::from(u32::MAX), b'\n', rest)?;
-    let number = MessageNumber::new(number as u32);
+    let (number, rest) = number_of(1, MAX_MESSAGE, b'\n', rest)?;
+    let number = MessageNumber::new(number);
     Ok((Step::Deliver { from, to, number }, rest))
 }
 
@@ -313,10 +314,10 @@ pub fn stop_meta_of(bytes: &[u8]) -> Result<(Step, &[u8]), Stop>
     ensures { Gives (λ x. (x.0, x.1.now)) result (stop_meta_at bytes.now) }
 {
     let (client, rest) = client_of(b' ', bytes)?;
-    let (number, rest) = number_of(1, u64::from(u32::MAX), b' ', rest)?;
+    let (number, rest) = number_of(1, MAX_MESSAGE, b' ', rest)?;
     let ((call, kept), rest) = call_of(rest)?;
     let client = ClientId::new(client);
-    let number = MessageNumber::new(number as u32);
+    let number = MessageNumber::new(number);
     let call = DeviceStep::new(call);
     Ok((
         Step::StopMeta {

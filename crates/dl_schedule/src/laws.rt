@@ -2,8 +2,8 @@
 
 ghost use Rattle.dl_schedule.specs.Laws.{LinesAreExact, EarlyLinesAreExact};
 
-/// The reader on lists reads exactly the lines of the grammar, as the steps that they spell, and stops at each other line at
-/// the exact column.
+/// The reader on lists reads exactly the lines of the grammar, as the steps that they spell, and stops at each other line
+/// at the exact column.
 pub fn lines_are_exact()
     ensures { LinesAreExact }
 {}

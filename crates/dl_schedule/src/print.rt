@@ -1,13 +1,13 @@
 ghost use Rattle.std.specs.Prelude.{◌≡◌, ◌++◌, IfOk, OnOk};
-ghost use Rattle.dl_schedule.specs.StepLines.{bit_number, address_field, node_field, start_field, seek_words, other_words, step_line};
+ghost use Rattle.dl_schedule.specs.StepLines.{bit_number, address_field, node_field, start_field};
+ghost use Rattle.dl_schedule.specs.StepLines.{seek_words, other_words, step_line};
 ghost use Rattle.dl_text.specs.Numbers.{number};
 ghost use Rattle.dl_text.specs.Fields.{bytes_field};
 ghost use Rattle.dl_schedule.specs.StepLines.{space, line_feed};
 
-use crate::bookie_count::BookieCount;
-use crate::device_step::DeviceStep;
 use crate::node::Node;
 use crate::step::Step;
+use crate::up_to::{BookieCount, DeviceStep};
 use crate::words::{FirstWord, NodeWord, StartWord};
 use dl_text::field::{put_bytes, put_place};
 use dl_text::hex::put_hex;
@@ -40,12 +40,14 @@ fn put_bookie(out: &mut Vec<u8>, end: u8, bookie: &BookieId) -> Result<(), NoMem
 fn put_count(out: &mut Vec<u8>, end: u8, count: &BookieCount) -> Result<(), NoMemory>
     ensures { OnOk result (out.new.items ≡ out.old.items ++ number end count.now) }
 {
-    put_number(out, end, u64::from(count.number()))
+    put_number(out, end, count.number())
 }
 
 /// Puts a client and a stream, to the end of the line.
 fn put_client_stream(out: &mut Vec<u8>, client: &ClientId, stream: &Name) -> Result<(), NoMemory>
-    ensures { OnOk result (out.new.items ≡ out.old.items ++ (number space client.now ++ bytes_field line_feed stream.now)) }
+    ensures { OnOk result
+        (out.new.items ≡ out.old.items
+        ++ (number space client.now ++ bytes_field line_feed stream.now)) }
 {
     put_client(out, b' ', client)?;
     put_bytes(out, b'\n', stream.as_slice())
@@ -53,9 +55,11 @@ fn put_client_stream(out: &mut Vec<u8>, client: &ClientId, stream: &Name) -> Res
 
 /// Puts a device call and whether its work is kept, to the end of the line.
 fn put_call(out: &mut Vec<u8>, call: &DeviceStep, kept: bool) -> Result<(), NoMemory>
-    ensures { OnOk result (out.new.items ≡ out.old.items ++ (number space call.now ++ number line_feed (bit_number kept))) }
+    ensures { OnOk result
+        (out.new.items ≡ out.old.items
+        ++ (number space call.now ++ number line_feed (bit_number kept))) }
 {
-    put_number(out, b' ', u64::from(call.number()))?;
+    put_number(out, b' ', call.number())?;
     put_number(out, b'\n', if kept { 1 } else { 0 })
 }
 
@@ -100,7 +104,8 @@ fn put_seek(
     stream: &Name,
     start: &Start,
 ) -> Result<(), NoMemory>
-    ensures { OnOk result (out.new.items ≡ out.old.items ++ seek_words client.now stream.now start.now) }
+    ensures { OnOk result
+        (out.new.items ≡ out.old.items ++ seek_words client.now stream.now start.now) }
 {
     put_client(out, b' ', client)?;
     put_bytes(out, b' ', stream.as_slice())?;
@@ -166,7 +171,7 @@ fn put_other_words(out: &mut Vec<u8>, step: &Step) -> Result<(), NoMemory>
         } => put_seek(out, client, stream, &Start::Tx(*txid)),
         Step::Read { client, count } => {
             put_client(out, b' ', client)?;
-            put_number(out, b'\n', u64::from(count.number()))
+            put_number(out, b'\n', count.number())
         }
         Step::Truncate {
             client,
@@ -180,7 +185,7 @@ fn put_other_words(out: &mut Vec<u8>, step: &Step) -> Result<(), NoMemory>
         Step::Deliver { from, to, number } => {
             put_address(out, b' ', from)?;
             put_address(out, b' ', to)?;
-            put_number(out, b'\n', u64::from(number.number()))
+            put_number(out, b'\n', number.number())
         }
         Step::Sync { bookie } => put_bookie(out, b'\n', bookie),
         Step::Lose { bookie } => put_bookie(out, b'\n', bookie),
@@ -195,7 +200,7 @@ fn put_other_words(out: &mut Vec<u8>, step: &Step) -> Result<(), NoMemory>
             kept,
         } => {
             put_client(out, b' ', client)?;
-            put_number(out, b' ', u64::from(number.number()))?;
+            put_number(out, b' ', number.number())?;
             put_call(out, call, *kept)
         }
         Step::Kill { node } => put_node(out, node),

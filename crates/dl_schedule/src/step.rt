@@ -1,8 +1,5 @@
-use crate::bookie_count::BookieCount;
-use crate::device_step::DeviceStep;
-use crate::message_number::MessageNumber;
 use crate::node::Node;
-use crate::row_count::RowCount;
+use crate::up_to::{BookieCount, DeviceStep, MessageNumber, RowCount};
 use dl_types::address::Address;
 use dl_types::bookie::BookieId;
 use dl_types::client::ClientId;

@@ -1,21 +1,24 @@
 -- One field or another is read exactly.
 use Rattle.std.proofs.Common.{◌≡◌, ℕ, ◌+◌, ◌≤◌, min, List, ◌++◌, length, Result, Ok, Err, ◌⊎◌, inl, inr, refl, ◌∙◌, arith}
 use Rattle.std.proofs.lemmas.Bool.{cases_lt}
-use Rattle.dl_text.specs.Readers.{shared, Exact}
+use Rattle.dl_text.specs.Readers.{shared_length, Exact}
 use Rattle.dl_text.specs.Choices.{either, or_at}
 
+-- a choice gives what one of its two readings gives
 ok_of : {A : Type 0} (x y : Result A ℕ) (z : A) → either x y ≡ Ok z → (x ≡ Ok z) ⊎ (y ≡ Ok z)
 ok_of (Ok x) y z e = inl e
 ok_of (Err m) (Ok y) z e = inr e
 ok_of (Err m) (Err n) z e = absurd cc
 
+-- a choice stops only where both readings stop, as far as the one that leaves fewer bytes
 err_of : {A : Type 0} (x y : Result A ℕ) (left : ℕ) → either x y ≡ Err left → (m n : ℕ) × (x ≡ Err m) × (y ≡ Err n) × (min m n ≡ left)
 err_of (Ok x) y left e = absurd cc
 err_of (Err m) (Ok y) left e = absurd cc
 err_of (Err m) (Err n) left e = (m, n, refl, refl, cc)
 
 -- Two fields of one type, where the first reader stops at each text of the second.
-pub either_exact : {A : Type 0} (V W : A → Type 0) (p : A → List ℕ) (r s : List ℕ → Result (A × List ℕ) ℕ) → Exact V p r → Exact W p s → ((a : A) (rest : List ℕ) → W a → (left : ℕ) × (r (p a ++ rest) ≡ Err left)) → Exact (λ a. V a ⊎ W a) p (or_at r s)
+pub either_exact : {A : Type 0} (V W : A → Type 0) (p : A → List ℕ) (r s : List ℕ → Result (A × List ℕ) ℕ) → Exact V p r → Exact W p s
+    → ((a : A) (rest : List ℕ) → W a → (left : ℕ) × (r (p a ++ rest) ≡ Err left)) → Exact (λ a. V a ⊎ W a) p (or_at r s)
 either_exact {A} V W p r s one other apart = record {
   found = λ bytes a rest e. elim (ok_of (r bytes) (s bytes) (a, rest) e) [
     | inl h ↦ let f = one.found bytes a rest h in (inl f.0, f.1)

@@ -1,5 +1,6 @@
 -- Numbers are read exactly.
-use Rattle.std.proofs.Common.{◌≡◌, ◌≢◌, ℕ, suc, zero, ◌+◌, ◌-◌, ◌*◌, ◌/◌, ◌%◌, ◌^◌, ◌≤◌, ◌<◌, Bool, true, false, eqb, leb, not, ◌&&◌, List, [], ◌∷◌, ◌++◌, length, get_or, Result, Ok, Err, ◌⊎◌, inl, inr, refl, sym, ap, subst, ◌∙◌, append_assoc, arith, length-append, lit<}
+use Rattle.std.proofs.Common.{◌≡◌, ◌≢◌, ℕ, suc, zero, ◌+◌, ◌-◌, ◌*◌, ◌/◌, ◌%◌, ◌^◌, ◌≤◌, ◌<◌, Bool, true, false, eqb, leb, not, ◌&&◌, List, [], ◌∷◌, ◌++◌}
+use Rattle.std.proofs.Common.{length, get_or, Result, Ok, Err, ◌⊎◌, inl, inr, refl, sym, ap, subst, ◌∙◌, append_assoc, arith, length-append, lit<}
 use Rattle.std.specs.Fmt.{decimal}
 use Rattle.std.specs.Char.{digit_value}
 use Rattle.std.specs.Str.Parse.{AllDigits, digits_value, digits_value_after}
@@ -10,7 +11,7 @@ use Rattle.std.proofs.lemmas.Bool.{eqb-true, eqb-false, eq-eqb, leb-true, cases_
 use Rattle.std.proofs.lemmas.List.{append-nil}
 use Rattle.std.specs.Prelude.{IfOk}
 use Rattle.dl_text.specs.declared.stop.Stop.{Stop}
-use Rattle.dl_text.specs.Readers.{Gives, shared, Exact}
+use Rattle.dl_text.specs.Readers.{Gives, shared_length, Exact}
 use Rattle.dl_text.specs.Numbers.{digits_at, number_at, number, IsWithin, IsNoDigit, IsRange}
 use Rattle.dl_text.proofs.ReaderLemmas.{shared_le, begins, ok_is, near_behind}
 
@@ -24,13 +25,16 @@ pub record StopsEarly {A : Type 0} (read : List ℕ → Result (A × List ℕ) �
   pub always : (more : List ℕ) → (n : ℕ) × (read (front ++ byte ∷ more) ≡ Err n)
 
 -- so no field shares more
-pub far_from_stop : {A : Type 0} (V : A → Type 0) (p : A → List ℕ) (r : List ℕ → Result (A × List ℕ) ℕ) → ((a : A) (rest : List ℕ) → V a → r (p a ++ rest) ≡ Ok (a, rest)) → (bytes : List ℕ) (left : ℕ) → (left ≡ 0) ⊎ StopsEarly r bytes left → (a : A) → V a → shared bytes (p a) + left ≤ length bytes
+pub far_from_stop : {A : Type 0} (V : A → Type 0) (p : A → List ℕ) (r : List ℕ → Result (A × List ℕ) ℕ)
+    → ((a : A) (rest : List ℕ) → V a → r (p a ++ rest) ≡ Ok (a, rest)) → (bytes : List ℕ) (left : ℕ) → (left ≡ 0) ⊎ StopsEarly r bytes left → (a : A) → V a
+    → shared_length bytes (p a) + left ≤ length bytes
 far_from_stop V p r again bytes left (inl e) a valid = omega (arith, shared_le bytes (p a))
-far_from_stop {A} V p r again bytes left (inr s) a valid = elim (cases_lt (length s.front) (shared bytes (p a))) [
+far_from_stop {A} V p r again bytes left (inr s) a valid = elim (cases_lt (length s.front) (shared_length bytes (p a))) [
   | inl further ↦ absurd (
       let e : bytes ≡ (s.front ++ s.byte ∷ []) ++ s.rest = s.parts ∙ sym (append_assoc s.front (s.byte ∷ []) s.rest) in
-      let long : length (s.front ++ s.byte ∷ []) ≤ shared bytes (p a) = omega (arith, length-append s.front (s.byte ∷ [])) in
-      let there : length (s.front ++ s.byte ∷ []) ≤ shared ((s.front ++ s.byte ∷ []) ++ s.rest) (p a) = subst (λ (l : List ℕ). length (s.front ++ s.byte ∷ []) ≤ shared l (p a)) e long in
+      let long : length (s.front ++ s.byte ∷ []) ≤ shared_length bytes (p a) = omega (arith, length-append s.front (s.byte ∷ [])) in
+      let there : length (s.front ++ s.byte ∷ []) ≤ shared_length ((s.front ++ s.byte ∷ []) ++ s.rest) (p a) =
+      subst (λ (l : List ℕ). length (s.front ++ s.byte ∷ []) ≤ shared_length l (p a)) e long in
       let m = begins (s.front ++ s.byte ∷ []) s.rest (p a) there in
       let same : p a ++ [] ≡ s.front ++ s.byte ∷ m.0 = append-nil (p a) ∙ m.1 ∙ append_assoc s.front (s.byte ∷ []) m.0 in
       let stop = s.always m.0 in
@@ -41,6 +45,7 @@ far_from_stop {A} V p r again bytes left (inr s) a valid = elim (cases_lt (lengt
 
 -- a digit more
 
+-- a digit behind a number above 0 spells ten times the number and the digit
 pub decimal_push : (v d : ℕ) → 0 < v → d < 10 → v * 10 + d < 2 ^ 64 → decimal (v * 10 + d) ≡ decimal v ++ (48 + d) ∷ []
 decimal_push v d h k small =
     let n = v * 10 + d in
@@ -49,9 +54,11 @@ decimal_push v d h k small =
     let last : n % 10 ≡ d = omega arith in
     decimal_step n ten small ∙ rw (front, last) refl
 
+-- a byte is a digit, behind a number above 0, and the number stays within the greatest
 abbrev fits_digit : ℕ → ℕ → ℕ → Bool
 fits_digit high v c = leb 48 c && leb c 57 && not (eqb v 0) && leb (v * 10 + (c - 48)) high
 
+-- what it means that a digit fits: the byte's range, a number above 0, and the new number's bound
 fits_parts : (high v c : ℕ) → fits_digit high v c ≡ true → (48 ≤ c) × (c ≤ 57) × (0 < v) × (v * 10 + (c - 48) ≤ high)
 fits_parts high v c h =
     let a = and_parts (leb 48 c && leb c 57 && not (eqb v 0)) (leb (v * 10 + (c - 48)) high) h in
@@ -63,24 +70,30 @@ fits_parts high v c h =
 -- what one byte after the value v does
 data DigitCase (high end v c : ℕ) : Type 0 where
   ends : c ≡ end → ((t : List ℕ) → digits_at high end v (c ∷ t) ≡ Ok (v, t)) → DigitCase high end v c
-  goes : 48 ≤ c → c ≤ 57 → 0 < v → v * 10 + (c - 48) ≤ high → c ≢ end → ((t : List ℕ) → digits_at high end v (c ∷ t) ≡ digits_at high end (v * 10 + (c - 48)) t) → DigitCase high end v c
+  goes : 48 ≤ c → c ≤ 57 → 0 < v → v * 10 + (c - 48) ≤ high → c ≢ end → ((t : List ℕ)
+      → digits_at high end v (c ∷ t) ≡ digits_at high end (v * 10 + (c - 48)) t) → DigitCase high end v c
   stops : c ≢ end → ((t : List ℕ) → digits_at high end v (c ∷ t) ≡ Err (1 + length t)) → DigitCase high end v c
 
+-- so it is for the answers of both tests of the byte
 digit_case_go : (high end v c : ℕ) (is_end fits : Bool) → eqb c end ≡ is_end → fits_digit high v c ≡ fits → DigitCase high end v c
 digit_case_go high end v c true fits t1 t2 = ends (eqb-true c end t1) (λ t. rw t1 refl)
 digit_case_go high end v c false true t1 t2 = let f = fits_parts high v c t2 in goes f.0 f.1 f.2 f.3 (eqb-false c end t1) (λ t. rw (t1, t2) refl)
 digit_case_go high end v c false false t1 t2 = stops (eqb-false c end t1) (λ t. rw (t1, t2) refl)
 
+-- each byte ends a number, or goes on with it, or stops it
 digit_case : (high end v c : ℕ) → DigitCase high end v c
 digit_case high end v c = digit_case_go high end v c (eqb c end) (fits_digit high v c) refl refl
 
+-- a digit read behind a number is the spelling of the longer number
 push_byte : (v c : ℕ) (t : List ℕ) → 0 < v → 48 ≤ c → c ≤ 57 → v * 10 + (c - 48) < 2 ^ 64 → decimal v ++ c ∷ t ≡ decimal (v * 10 + (c - 48)) ++ t
 push_byte v c t pos l h small =
     let e : 48 + (c - 48) ≡ c = omega arith in
     let k : c - 48 < 10 = omega arith in
     rw (decimal_push v (c - 48) pos k small) (rw e (sym (append_assoc (decimal v) (c ∷ []) t)))
 
-digits_found : (high end v : ℕ) (bytes : List ℕ) (n : ℕ) (rest : List ℕ) → high < 2 ^ 64 → v ≤ high → digits_at high end v bytes ≡ Ok (n, rest) → (v ≤ n) × (n ≤ high) × (decimal v ++ bytes ≡ number end n ++ rest)
+-- a number that is read lies from the one begun to the greatest, and is spelt so
+digits_found : (high end v : ℕ) (bytes : List ℕ) (n : ℕ) (rest : List ℕ) → high < 2 ^ 64 → v ≤ high → digits_at high end v bytes ≡ Ok (n, rest)
+    → (v ≤ n) × (n ≤ high) × (decimal v ++ bytes ≡ number end n ++ rest)
 digits_found high end v [] n rest big below e = absurd cc
 digits_found high end v (c ∷ cs) n rest big below e = elim (digit_case high end v c) [
   | ends is at ↦
@@ -94,14 +107,22 @@ digits_found high end v (c ∷ cs) n rest big below e = elim (digit_case high en
   | stops ne at ↦ absurd (let clash : Err (1 + length cs) ≡ Ok (n, rest) = sym (at cs) ∙ e in cc)
 ]
 
-digits_near : (high end v : ℕ) (bytes : List ℕ) (left : ℕ) → high < 2 ^ 64 → v ≤ high → digits_at high end v bytes ≡ Err left → (n : ℕ) × (v ≤ n) × (n ≤ high) × (shared (decimal v ++ bytes) (number end n) + left ≡ length (decimal v ++ bytes))
-digits_near high end v [] left big below e = (v, omega arith, below, near_behind (decimal v ++ []) (decimal v) [] (end ∷ []) left refl (let z : Err 0 ≡ Err left = e in let y : 0 ≡ left = cc in omega (arith, y)))
+-- where more digits stop, some number in the range shares all that stands before
+digits_near : (high end v : ℕ) (bytes : List ℕ) (left : ℕ) → high < 2 ^ 64 → v ≤ high → digits_at high end v bytes ≡ Err left
+    → (n : ℕ) × (v ≤ n) × (n ≤ high) × (shared_length (decimal v ++ bytes) (number end n) + left ≡ length (decimal v ++ bytes))
+digits_near high end v [] left big below e = (
+  v,
+  omega arith,
+  below,
+  near_behind (decimal v ++ []) (decimal v) [] (end ∷ []) left refl
+      (let z : Err 0 ≡ Err left = e in let y : 0 ≡ left = cc in omega (arith, y)),
+)
 digits_near high end v (c ∷ cs) left big below e = elim (digit_case high end v c) [
   | ends is at ↦ absurd (let clash : Ok (v, cs) ≡ Err left = sym (at cs) ∙ e in cc)
   | goes l h pos fits ne at ↦
       let small : v * 10 + (c - 48) < 2 ^ 64 = omega arith in
       let w = digits_near high end (v * 10 + (c - 48)) cs left big fits (sym (at cs) ∙ e) in
-      let P : List ℕ → Type 0 = λ t. shared t (number end w.0) + left ≡ length t in
+      let P : List ℕ → Type 0 = λ t. shared_length t (number end w.0) + left ≡ length t in
       (w.0, omega (arith, w.1), w.2, subst P (sym (push_byte v c cs pos l h small)) w.3)
   | stops ne at ↦
       let all : Err (1 + length cs) ≡ Err left = sym (at cs) ∙ e in
@@ -109,38 +130,52 @@ digits_near high end v (c ∷ cs) left big below e = elim (digit_case high end v
       (v, omega arith, below, near_behind (decimal v ++ c ∷ cs) (decimal v) (c ∷ cs) (end ∷ []) left refl (grind (arith, nat_tests, ne, size)))
 ]
 
+-- more digits stop at the text's end, or at a byte that decides it with what stands before
 digits_early : (high end v : ℕ) (bytes : List ℕ) (left : ℕ) → digits_at high end v bytes ≡ Err left → (left ≡ 0) ⊎ StopsEarly (digits_at high end v) bytes left
 digits_early high end v [] left e = inl (let z : Err 0 ≡ Err left = e in cc)
 digits_early high end v (c ∷ cs) left e = elim (digit_case high end v c) [
   | ends is at ↦ absurd (let clash : Ok (v, cs) ≡ Err left = sym (at cs) ∙ e in cc)
   | goes l h pos fits ne at ↦ elim (digits_early high end (v * 10 + (c - 48)) cs left (sym (at cs) ∙ e)) [
     | inl z ↦ inl z
-    | inr s ↦ inr (record { front = c ∷ s.front; byte = s.byte; rest = s.rest; parts = ap (λ (t : List ℕ). c ∷ t) s.parts; size = s.size; always = λ more. let a = s.always more in (a.0, at (s.front ++ s.byte ∷ more) ∙ a.1) })
+    | inr s ↦ inr (record {
+      front = c ∷ s.front;
+      byte = s.byte;
+      rest = s.rest;
+      parts = ap (λ (t : List ℕ). c ∷ t) s.parts;
+      size = s.size;
+      always = λ more. let a = s.always more in (a.0, at (s.front ++ s.byte ∷ more) ∙ a.1);
+    })
   ]
   | stops ne at ↦
       let all : Err (1 + length cs) ≡ Err left = sym (at cs) ∙ e in
       inr (record { front = []; byte = c; rest = cs; parts = refl; size = cc; always = λ more. (1 + length more, at more) })
 ]
 
+-- digits behind a number make none that is less
 digits_after_ge : (v : ℕ) (ds : List ℕ) → v ≤ digits_value_after 10 v ds
 digits_after_ge v [] = omega arith
 digits_after_ge v (c ∷ cs) = omega (arith, digits_after_ge (v * 10 + digit_value c) cs)
 
+-- the value of the digits 0 to 9
 digit_value_is : (c : ℕ) → 48 ≤ c → c ≤ 57 → digit_value c ≡ c - 48
 digit_value_is c l h = grind (arith, nat_tests)
 
 -- a digit that fits goes on
-digits_go : (high end v c : ℕ) (t : List ℕ) → 48 ≤ c → c ≤ 57 → 0 < v → v * 10 + (c - 48) ≤ high → IsNoDigit end → digits_at high end v (c ∷ t) ≡ digits_at high end (v * 10 + (c - 48)) t
+digits_go : (high end v c : ℕ) (t : List ℕ) → 48 ≤ c → c ≤ 57 → 0 < v → v * 10 + (c - 48) ≤ high → IsNoDigit end
+    → digits_at high end v (c ∷ t) ≡ digits_at high end (v * 10 + (c - 48)) t
 digits_go high end v c t l h pos fits low = elim (digit_case high end v c) [
   | ends is at ↦ absurd (low c l h is)
   | goes l' h' pos' fits' ne at ↦ at t
   | stops ne at ↦ grind (arith, nat_tests)
 ]
 
+-- at the end the number is the one so far
 digits_end : (high end v : ℕ) (t : List ℕ) → digits_at high end v (end ∷ t) ≡ Ok (v, t)
 digits_end high end v t = rw (eq-eqb end end refl) refl
 
-digits_again : (high end v : ℕ) (ds rest : List ℕ) → AllDigits 10 ds → 0 < v → digits_value_after 10 v ds ≤ high → IsNoDigit end → digits_at high end v (ds ++ end ∷ rest) ≡ Ok (digits_value_after 10 v ds, rest)
+-- digits whose number stays within the greatest are read to the end, whatever follows
+digits_again : (high end v : ℕ) (ds rest : List ℕ) → AllDigits 10 ds → 0 < v → digits_value_after 10 v ds ≤ high → IsNoDigit end
+    → digits_at high end v (ds ++ end ∷ rest) ≡ Ok (digits_value_after 10 v ds, rest)
 digits_again high end v [] rest all pos fits low = digits_end high end v rest
 digits_again high end v (c ∷ cs) rest all pos fits low =
     let r = digit_from_value c all.0 in
@@ -153,13 +188,16 @@ digits_again high end v (c ∷ cs) rest all pos fits low =
     ∙ ap (λ (k : ℕ). digits_at high end (v * 10 + k) (cs ++ end ∷ rest)) (sym is)
     ∙ digits_again high end (v * 10 + digit_value c) cs rest all.1 (omega arith) fits low
 
+-- a byte is a digit from the least number on, and not above the greatest
 abbrev fits_first : ℕ → ℕ → ℕ → Bool
 fits_first low high c = leb (48 + low) c && leb c 57 && leb (c - 48) high
 
+-- a first byte begins a number, or stops at the front
 data FirstCase (low high end c : ℕ) : Type 0 where
   goes : 48 + low ≤ c → c ≤ 57 → c - 48 ≤ high → ((t : List ℕ) → number_at low high end (c ∷ t) ≡ digits_at high end (c - 48) t) → FirstCase low high end c
   stops : fits_first low high c ≡ false → ((t : List ℕ) → number_at low high end (c ∷ t) ≡ Err (1 + length t)) → FirstCase low high end c
 
+-- so it is for the answer of the test of the byte
 first_case_go : (low high end c : ℕ) (fits : Bool) → fits_first low high c ≡ fits → FirstCase low high end c
 first_case_go low high end c true h =
     let a = and_parts (leb (48 + low) c && leb c 57) (leb (c - 48) high) h in
@@ -167,13 +205,17 @@ first_case_go low high end c true h =
     goes (leb-true _ _ b.0) (leb-true _ _ b.1) (leb-true _ _ a.1) (λ t. rw h refl)
 first_case_go low high end c false h = stops h (λ t. rw h refl)
 
+-- each first byte begins a number, or stops at the front
 first_case : (low high end c : ℕ) → FirstCase low high end c
 first_case low high end c = first_case_go low high end c (fits_first low high c) refl
 
+-- a digit is the spelling of its value
 one_digit : (c : ℕ) → 48 ≤ c → c ≤ 57 → decimal (c - 48) ≡ c ∷ []
 one_digit c l h = let small : c - 48 < 10 = omega arith in let e : 48 + (c - 48) ≡ c = omega arith in decimal_digit (c - 48) small ∙ rw e refl
 
-number_found : (low high end : ℕ) → IsRange low high end → (bytes : List ℕ) (n : ℕ) (rest : List ℕ) → number_at low high end bytes ≡ Ok (n, rest) → IsWithin low high n × (bytes ≡ number end n ++ rest)
+-- a number that is read lies in the range, and is spelt so
+number_found : (low high end : ℕ) → IsRange low high end → (bytes : List ℕ) (n : ℕ) (rest : List ℕ) → number_at low high end bytes ≡ Ok (n, rest)
+    → IsWithin low high n × (bytes ≡ number end n ++ rest)
 number_found low high end range [] n rest e = absurd cc
 number_found low high end range (c ∷ cs) n rest e = elim (first_case low high end c) [
   | goes l h fits at ↦
@@ -183,36 +225,49 @@ number_found low high end range (c ∷ cs) n rest e = elim (first_case low high 
   | stops bad at ↦ absurd (let clash : Err (1 + length cs) ≡ Ok (n, rest) = sym (at cs) ∙ e in cc)
 ]
 
-number_near : (low high end : ℕ) → IsRange low high end → (bytes : List ℕ) (left : ℕ) → number_at low high end bytes ≡ Err left → (n : ℕ) × IsWithin low high n × (shared bytes (number end n) + left ≡ length bytes)
+-- where a reading of a number stops, some number in the range shares all that stands before
+number_near : (low high end : ℕ) → IsRange low high end → (bytes : List ℕ) (left : ℕ) → number_at low high end bytes ≡ Err left
+    → (n : ℕ) × IsWithin low high n × (shared_length bytes (number end n) + left ≡ length bytes)
 number_near low high end range [] left e = (low, (omega arith, range.low_high), let z : Err 0 ≡ Err left = e in let y : 0 ≡ left = cc in omega (arith, y))
 number_near low high end range (c ∷ cs) left e = elim (first_case low high end c) [
   | goes l h fits at ↦
       let w = digits_near high end (c - 48) cs left range.high_fits fits (sym (at cs) ∙ e) in
       let l48 : 48 ≤ c = omega arith in
-      let P : List ℕ → Type 0 = λ t. shared (t ++ cs) (number end w.0) + left ≡ length (t ++ cs) in
+      let P : List ℕ → Type 0 = λ t. shared_length (t ++ cs) (number end w.0) + left ≡ length (t ++ cs) in
       (w.0, (omega (arith, w.1), w.2), subst P (one_digit c l48 h) w.3)
   | stops bad at ↦
       let all : Err (1 + length cs) ≡ Err left = sym (at cs) ∙ e in
       let size : 1 + length cs ≡ left = cc in
       let small : low < 10 = omega (arith, range.low_small) in
       let apart : c ≢ 48 + low = λ same. grind (arith, nat_tests, bad, same, range.low_small, range.low_high) in
-      let P : List ℕ → Type 0 = λ t. shared (c ∷ cs) (t ++ end ∷ []) + left ≡ length (c ∷ cs) in
+      let P : List ℕ → Type 0 = λ t. shared_length (c ∷ cs) (t ++ end ∷ []) + left ≡ length (c ∷ cs) in
       (low, (omega arith, range.low_high), subst P (sym (decimal_digit low small)) (grind (arith, nat_tests, apart, size)))
 ]
 
-number_early : (low high end : ℕ) (bytes : List ℕ) (left : ℕ) → number_at low high end bytes ≡ Err left → (left ≡ 0) ⊎ StopsEarly (number_at low high end) bytes left
+-- a reading of a number stops at the text's end, or at a byte that decides it with what stands before
+number_early : (low high end : ℕ) (bytes : List ℕ) (left : ℕ) → number_at low high end bytes ≡ Err left
+    → (left ≡ 0) ⊎ StopsEarly (number_at low high end) bytes left
 number_early low high end [] left e = inl (let z : Err 0 ≡ Err left = e in cc)
 number_early low high end (c ∷ cs) left e = elim (first_case low high end c) [
   | goes l h fits at ↦ elim (digits_early high end (c - 48) cs left (sym (at cs) ∙ e)) [
     | inl z ↦ inl z
-    | inr s ↦ inr (record { front = c ∷ s.front; byte = s.byte; rest = s.rest; parts = ap (λ (t : List ℕ). c ∷ t) s.parts; size = s.size; always = λ more. let a = s.always more in (a.0, at (s.front ++ s.byte ∷ more) ∙ a.1) })
+    | inr s ↦ inr (record {
+      front = c ∷ s.front;
+      byte = s.byte;
+      rest = s.rest;
+      parts = ap (λ (t : List ℕ). c ∷ t) s.parts;
+      size = s.size;
+      always = λ more. let a = s.always more in (a.0, at (s.front ++ s.byte ∷ more) ∙ a.1);
+    })
   ]
   | stops bad at ↦
       let all : Err (1 + length cs) ≡ Err left = sym (at cs) ∙ e in
       inr (record { front = []; byte = c; rest = cs; parts = refl; size = cc; always = λ more. (1 + length more, at more) })
 ]
 
-number_again_go : (low high end n : ℕ) (ds rest : List ℕ) → IsRange low high end → IsWithin low high n → 0 < n → 48 < get_or ds 0 0 → 0 < length ds → AllDigits 10 ds → digits_value 10 ds ≡ n → number_at low high end (ds ++ end ∷ rest) ≡ Ok (n, rest)
+-- digits that spell a number of the range, the first not 0, are read as that number, whatever follows
+number_again_go : (low high end n : ℕ) (ds rest : List ℕ) → IsRange low high end → IsWithin low high n → 0 < n → 48 < get_or ds 0 0 → 0 < length ds
+    → AllDigits 10 ds → digits_value 10 ds ≡ n → number_at low high end (ds ++ end ∷ rest) ≡ Ok (n, rest)
 number_again_go low high end n [] rest range within pos first some all is = absurd (omega arith)
 number_again_go low high end n (c ∷ cs) rest range within pos first some all is =
     let r = digit_from_value c all.0 in
@@ -223,10 +278,13 @@ number_again_go low high end n (c ∷ cs) rest range within pos first some all i
     let value : digits_value_after 10 (c - 48) cs ≡ n = ap (λ (k : ℕ). digits_value_after 10 k cs) (omega (arith, is_c)) ∙ is in
     let ge = digits_after_ge (c - 48) cs in
     elim (first_case low high end c) [
-      | goes l' h' fits at ↦ at (cs ++ end ∷ rest) ∙ digits_again high end (c - 48) cs rest all.1 (omega arith) (omega (arith, value, within.1)) range.end_apart ∙ rw value refl
-      | stops bad at ↦ absurd (let small : c - 48 ≤ high = omega (arith, ge, value, within.1) in let low' : 48 + low ≤ c = omega (arith, range.low_small) in grind (arith, nat_tests, bad, small, low', h))
+      | goes l' h' fits at ↦ at (cs ++ end ∷ rest)
+          ∙ digits_again high end (c - 48) cs rest all.1 (omega arith) (omega (arith, value, within.1)) range.end_apart ∙ rw value refl
+      | stops bad at ↦ absurd (let small : c - 48 ≤ high = omega (arith, ge, value, within.1) in let low' : 48 + low ≤ c = omega (arith, range.low_small) in
+          grind (arith, nat_tests, bad, small, low', h))
     ]
 
+-- the spelling of a number of the range is read as that number, whatever follows
 number_again : (low high end n : ℕ) (rest : List ℕ) → IsRange low high end → IsWithin low high n → number_at low high end (number end n ++ rest) ≡ Ok (n, rest)
 number_again low high end zero rest range within =
     let e : number end 0 ++ rest ≡ 48 ∷ end ∷ rest = rw (decimal_digit 0 (omega arith)) refl in
@@ -247,12 +305,15 @@ number_exact low high end range = record {
   found = number_found low high end range;
   again = λ n rest within. number_again low high end n rest range within;
   near = number_near low high end range;
-  far = λ bytes left e. far_from_stop (IsWithin low high) (number end) (number_at low high end) (λ n rest within. number_again low high end n rest range within) bytes left (number_early low high end bytes left e);
+  far = λ bytes left e. far_from_stop (IsWithin low high) (number end) (number_at low high end)
+      (λ n rest within. number_again low high end n rest range within) bytes left (number_early low high end bytes left e);
 }
 
 -- what is read lies in the range
-pub digits_within : {B : Type 0} (now : B → List ℕ) (r : Result (ℕ × B) Stop) (low high end v : ℕ) (bytes : List ℕ) → high < 2 ^ 64 → low ≤ v → v ≤ high → Gives (λ x. (x.0, now x.1)) r (digits_at high end v bytes) → IfOk r (λ x. IsWithin low high x.0)
-digits_within now (Ok x) low high end v bytes big from below given = let f = digits_found high end v bytes x.0 (now x.1) big below given in (omega (arith, f.0, from), f.1)
+pub digits_within : {B : Type 0} (now : B → List ℕ) (r : Result (ℕ × B) Stop) (low high end v : ℕ) (bytes : List ℕ) → high < 2 ^ 64 → low ≤ v → v ≤ high
+    → Gives (λ x. (x.0, now x.1)) r (digits_at high end v bytes) → IfOk r (λ x. IsWithin low high x.0)
+digits_within now (Ok x) low high end v bytes big from below given = let f = digits_found high end v bytes x.0 (now x.1) big below given in
+    (omega (arith, f.0, from), f.1)
 digits_within now (Err e) low high end v bytes big from below given = tt
 
 -- a u64 has at most 20 digits

@@ -1,11 +1,11 @@
 -- Where a text stops to be one of the grammar.
 use Rattle.std.specs.Prelude.{◌≡◌, ℕ, ◌+◌, ◌-◌, ◌<◌, List, [], ◌∷◌, ◌++◌, length, Result, Ok, Err}
-use Rattle.dl_text.specs.Readers.{shared}
+use Rattle.dl_text.specs.Readers.{shared_length}
 
 -- up to the column, counted from 1, some valid text goes on as the bytes do, and none goes on further
 pub record IsColumn {A : Type 0} (Valid : A → Type 0) (print : A → List ℕ) (bytes : List ℕ) (column : ℕ) : Type 0 where
-  pub goes_on : (a : A) × Valid a × (shared bytes (print a) + 1 ≡ column)
-  pub no_further : (a : A) → Valid a → shared bytes (print a) < column
+  pub goes_on : (a : A) × Valid a × (shared_length bytes (print a) + 1 ≡ column)
+  pub no_further : (a : A) → Valid a → shared_length bytes (print a) < column
 
 -- some valid text begins with these bytes
 abbrev pub Begins : {A : Type 0} → (A → Type 0) → (A → List ℕ) → List ℕ → Type 0

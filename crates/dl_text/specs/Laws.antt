@@ -35,7 +35,8 @@ WordsAreExact {K} text =
 
 -- a text that is to be one number field is read as it is spelt, or stops at the column at which no such number goes on
 abbrev pub WholeNumbersAreRead : Type 0
-WholeNumbersAreRead = (low high end : ℕ) → IsRange low high end → (bytes : List ℕ) → ReadsWhole (IsWithin low high) (number end) bytes (column_of bytes (whole_at (number_at low high end) bytes))
+WholeNumbersAreRead = (low high end : ℕ) → IsRange low high end → (bytes : List ℕ)
+    → ReadsWhole (IsWithin low high) (number end) bytes (column_of bytes (whole_at (number_at low high end) bytes))
 
 -- a line ends at the first line feed; bytes without one are one line
 pub record LinesEndAtFeeds : Type 0 where

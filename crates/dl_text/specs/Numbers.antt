@@ -6,6 +6,7 @@ use Rattle.std.specs.Fmt.{decimal}
 abbrev pub most_u32 : ℕ
 most_u32 = 4294967295
 
+-- the greatest number of 64 bits
 abbrev pub most_u64 : ℕ
 most_u64 = 18446744073709551615
 

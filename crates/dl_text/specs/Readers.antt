@@ -6,18 +6,18 @@ use Rattle.dl_text.specs.declared.stop.Stop.{Stop}
 use Rattle.dl_text.specs.declared.stop.Stop.TheVariants.{NoMemory, Left}
 
 -- how many first bytes two texts share
-abbrev pub shared : List ℕ → List ℕ → ℕ
-shared [] ys = 0
-shared (x ∷ xs) [] = 0
-shared (x ∷ xs) (y ∷ ys) = if x == y then 1 + shared xs ys else 0
+abbrev pub shared_length : List ℕ → List ℕ → ℕ
+shared_length [] ys = 0
+shared_length (x ∷ xs) [] = 0
+shared_length (x ∷ xs) (y ∷ ys) = if x == y then 1 + shared_length xs ys else 0
 
 -- a field behind which nothing is left
-abbrev pub ended : {A : Type 0} → A × List ℕ → Result A ℕ
-ended x = if length x.1 == 0 then Ok x.0 else Err (length x.1)
+abbrev pub whole_field : {A : Type 0} → A × List ℕ → Result A ℕ
+whole_field x = if length x.1 == 0 then Ok x.0 else Err (length x.1)
 
 -- a field that is the whole text
 abbrev pub whole_at : {A : Type 0} → (List ℕ → Result (A × List ℕ) ℕ) → List ℕ → Result A ℕ
-whole_at read bytes = read bytes >>= ended
+whole_at read bytes = read bytes >>= whole_field
 
 -- where a reading stops; want of memory says nothing of it
 abbrev pub place_of : Stop → Option ℕ
@@ -34,5 +34,5 @@ Gives = GivesBy place_of
 pub record Exact {A : Type 0} (Valid : A → Type 0) (print : A → List ℕ) (read : List ℕ → Result (A × List ℕ) ℕ) : Type 0 where
   pub found : (bytes : List ℕ) (a : A) (rest : List ℕ) → read bytes ≡ Ok (a, rest) → Valid a × (bytes ≡ print a ++ rest)
   pub again : (a : A) (rest : List ℕ) → Valid a → read (print a ++ rest) ≡ Ok (a, rest)
-  pub near : (bytes : List ℕ) (left : ℕ) → read bytes ≡ Err left → (a : A) × Valid a × (shared bytes (print a) + left ≡ length bytes)
-  pub far : (bytes : List ℕ) (left : ℕ) → read bytes ≡ Err left → (a : A) → Valid a → shared bytes (print a) + left ≤ length bytes
+  pub near : (bytes : List ℕ) (left : ℕ) → read bytes ≡ Err left → (a : A) × Valid a × (shared_length bytes (print a) + left ≡ length bytes)
+  pub far : (bytes : List ℕ) (left : ℕ) → read bytes ≡ Err left → (a : A) → Valid a → shared_length bytes (print a) + left ≤ length bytes

@@ -1,7 +1,8 @@
 ghost use Rattle.std.specs.Prelude.{◌≡◌, ◌<◌, ◌*◌, ◌%◌, [], IfOk, true, length};
 ghost use Rattle.std.specs.List.{list_all};
 ghost use Rattle.dl_text.specs.Readers.{Gives};
-ghost use Rattle.dl_text.specs.Hex.{is_hex, hex_value, hex_char, hex, hex_at, end_at, pairs, pairs_at, bytes_of, IsDigitCount};
+ghost use Rattle.dl_text.specs.Hex.{is_hex, hex_value, hex_char, hex, hex_at, end_at};
+ghost use Rattle.dl_text.specs.Hex.{pairs, pairs_at, bytes_of, IsDigitCount};
 ghost use Rattle.dl_text.specs.Outputs.{Puts};
 
 use crate::stop::Stop;

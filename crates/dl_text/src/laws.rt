@@ -1,6 +1,7 @@
 //! What holds of the readers of this crate, for each text: laws on their definitions, with no code.
 
-ghost use Rattle.dl_text.specs.Laws.{NumbersAreExact, HexIsExact, FieldsAreExact, WordsAreExact, WholeNumbersAreRead, LinesEndAtFeeds};
+ghost use Rattle.dl_text.specs.Laws.{NumbersAreExact, HexIsExact, FieldsAreExact, WordsAreExact};
+ghost use Rattle.dl_text.specs.Laws.{WholeNumbersAreRead, LinesEndAtFeeds};
 
 use crate::word::Word;
 

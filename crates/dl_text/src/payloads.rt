@@ -18,7 +18,8 @@ struct Item {
 
 /// A payload of a list: a space stands behind it where others follow, and a line feed where none do.
 fn item_of(alloc: Global, bytes: &[u8]) -> Result<(Item, &[u8]), Stop>
-    ensures { Gives (λ x. ((x.0.bytes.items, x.0.follow), x.1.now)) result (item_at hex_at bytes.now) }
+    ensures { Gives (λ x. ((x.0.bytes.items, x.0.follow), x.1.now)) result
+        (item_at hex_at bytes.now) }
 {
     let one = match hex_of(alloc, b' ', bytes) {
         Ok((bytes, rest)) => {

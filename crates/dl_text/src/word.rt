@@ -1,5 +1,5 @@
 ghost use Rattle.std.specs.Prelude.{◌≡◌, List, ℕ, MatchOption, None, Some};
-ghost use Rattle.dl_text.specs.Readers.{Gives, shared};
+ghost use Rattle.dl_text.specs.Readers.{Gives, shared_length};
 ghost use Rattle.dl_text.specs.Words.{after, words_from};
 
 use crate::stop::Stop;
@@ -16,7 +16,7 @@ pub trait Word: Copy {
 
 /// How many first bytes two texts share.
 fn shared_of(left: &[u8], right: &[u8]) -> usize
-    ensures { result ≡ shared left.now right.now }
+    ensures { result ≡ shared_length left.now right.now }
 {
     let mut count = 0;
     let mut one = left;
@@ -39,7 +39,8 @@ fn shared_of(left: &[u8], right: &[u8]) -> usize
 
 /// What stands behind the word at the front of the bytes.
 fn after_word<'a>(word: &[u8], bytes: &'a [u8]) -> Option<&'a [u8]>
-    ensures { MatchOption result (after word.now bytes.now ≡ None) (λ rest. after word.now bytes.now ≡ Some rest.now) }
+    ensures { MatchOption result (after word.now bytes.now ≡ None)
+        (λ rest. after word.now bytes.now ≡ Some rest.now) }
 {
     let mut rest = bytes;
     let mut wanted = word;

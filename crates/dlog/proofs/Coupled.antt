@@ -1,5 +1,6 @@
 -- A log and what was seen of it fit together, and so they do behind each of its acts.
-use Rattle.std.proofs.Common.{◌≡◌, ℕ, ◌+◌, ◌≤◌, Bool, true, false, cond, nat_lt, ◌==◌, List, [], ◌∷◌, ◌++◌, length, refl, sym, ap, ◌∙◌, subst, append_assoc, append-nil}
+use Rattle.std.proofs.Common.{◌≡◌, ℕ, ◌+◌, ◌≤◌, Bool, true, false, cond, nat_lt, ◌==◌, List, [], ◌∷◌}
+use Rattle.std.proofs.Common.{◌++◌, length, refl, sym, ap, ◌∙◌, subst, append_assoc, append-nil}
 use Rattle.std.specs.List.{flat_map}
 use Rattle.std.proofs.lemmas.Bool.{ltb-false}
 use Rattle.std.proofs.lemmas.List.Concat.{flat_map-append}
@@ -78,7 +79,8 @@ refused_leads sessions g c why s leaves h =
 pub append_leads : (sessions : ℕ) (g : Log) (txid : ℕ) (payload : List ℕ) (s : History) → LogFits sessions g s → ActLeads sessions s (append g txid payload)
 unfolding append
 append_leads sessions g txid payload s h =
-    go (nat_lt MAX_PAYLOAD (length payload)) (nat_lt txid g.last) (fits g payload) (is_window_full g) (ltb-false txid g.last) (TooLong (length payload)) (TxidBack g.last txid) refl refl
+    go (nat_lt MAX_PAYLOAD (length payload)) (nat_lt txid g.last) (fits g payload) (is_window_full g) (ltb-false txid g.last) (TooLong (length payload))
+    (TxidBack g.last txid) refl refl
   where
     go : (a b c d : Bool) → (b ≡ false → g.last ≤ txid) → (x y : Refusal) → effect_on_read x ≡ Leaves → effect_on_read y ≡ Leaves
         → ActLeads sessions s (cond {A = Effect Log} a (g, Refused g.client x ∷ []) (cond {A = Effect Log} b (g, Refused g.client y ∷ [])
@@ -106,5 +108,11 @@ confirm_leads sessions g s h =
     let w : WriterHistory = writer_history sessions g h.rows h.grown in
     let first : List Row = flat_map (λ (x : List Row). x) g.waiting in
     leads_to (Fits (upto w (h.grown ++ first))) (LogFits sessions (record g { waiting = [] })) s (flat_map (entry_events g.stream) g.waiting)
-    (λ t f. record { rows = h.rows; grown = h.grown ++ first; took = took_confirm g h.rows h.took; parts = h.parts ∙ sym (append_assoc h.grown first g.filling); seen = f })
+    (λ t f. record {
+      rows = h.rows;
+      grown = h.grown ++ first;
+      took = took_confirm g h.rows h.took;
+      parts = h.parts ∙ sym (append_assoc h.grown first g.filling);
+      seen = f;
+    })
     (entries_lead g.waiting g.filling h.grown w s h.took.in_turn h.parts h.seen)

@@ -10,7 +10,8 @@ use Rattle.dl_transcript.specs.declared.event.Event.{Event}
 use Rattle.dl_transcript.specs.declared.event.Event.TheVariants.{Refused, Nothing}
 use Rattle.dlog.specs.declared.order.Order.{Order}
 use Rattle.dlog.specs.declared.order.Order.TheVariants as order
-use Rattle.dlog.specs.Machine.{Log, State, Effect, record_size, entry_size, take, send, send_and_take, append, flush, confirm, on_log, finish, settle, one, fits, is_window_full, LogWithin, Within}
+use Rattle.dlog.specs.Machine.{Log, State, Effect, record_size, entry_size, take, send, send_and_take, append, flush}
+use Rattle.dlog.specs.Machine.{confirm, on_log, finish, settle, one, fits, is_window_full, LogWithin, Within}
 use Rattle.dl_types.specs.declared.payload.TheConstants.{MAX_PAYLOAD}
 
 -- each row of an entry takes its header
@@ -33,7 +34,9 @@ unfolding append send_and_take take send
 append_counts g txid payload = go (nat_lt MAX_PAYLOAD (length payload)) (nat_lt txid g.last) (fits g payload) (is_window_full g)
     (Refused g.client (TooLong (length payload)) ∷ []) (Refused g.client (TxidBack g.last txid) ∷ []) (Refused g.client WindowFull ∷ [])
   where
-    go : (a b c d : Bool) (x y z : List Event) → CountsUp g (cond {A = Effect Log} a (g, x) (cond {A = Effect Log} b (g, y) (cond {A = Effect Log} c (take g txid payload) (cond {A = Effect Log} d (g, z) (send_and_take g txid payload))))).0
+    go : (a b c d : Bool) (x y z : List Event)
+        → CountsUp g (cond {A = Effect Log} a (g, x) (cond {A = Effect Log} b (g, y)
+        (cond {A = Effect Log} c (take g txid payload) (cond {A = Effect Log} d (g, z) (send_and_take g txid payload))))).0
     go true b c d x y z = still g
     go false true c d x y z = still g
     go false false true d x y z = record { taken = omega arith; sent = omega arith }
@@ -86,7 +89,8 @@ unfolding one settle
 one_within n s (step.Join c) w = record { sessions = omega (arith, w.sessions); log = (later n s w).log }
 one_within n s (step.Create c stream) w = record { sessions = (later n s w).sessions; log = (later n s w).log }
 one_within n s (step.Open c stream) w = record { sessions = (later n s w).sessions; log = (later n s w).log }
-one_within n s (step.Append c txid payload) w = on_log_within n s s.log (λ g. append g txid payload) (Nothing ∷ []) (λ g. append_counts g txid payload) (omega (arith, w.sessions)) w.log w.log
+one_within n s (step.Append c txid payload) w = on_log_within n s s.log (λ g. append g txid payload) (Nothing ∷ []) (λ g. append_counts g txid payload)
+    (omega (arith, w.sessions)) w.log w.log
 one_within n s (step.Flush c) w = on_log_within n s s.log flush (Nothing ∷ []) flush_counts (omega (arith, w.sessions)) w.log w.log
 one_within n s step.Settle w =
     let f = finish_within n s s.order (omega (arith, w.sessions)) w in

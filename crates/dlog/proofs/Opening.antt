@@ -32,7 +32,8 @@ pub early_is_due : (n : ℕ) (x : Step) → IsEarly (n + 1) x → IsDue n x
 early_is_due n x h = go (n + 1 == 1) (n + 1 == 2) (n + 1 == 3) (n + 1 == 4) (n + 1 == 5) (n + 1 == 6) refl refl refl refl refl refl h
   where
     go : (a b c d e f : Bool) → (n + 1 == 1) ≡ a → (n + 1 == 2) ≡ b → (n + 1 == 3) ≡ c → (n + 1 == 4) ≡ d → (n + 1 == 5) ≡ e → (n + 1 == 6) ≡ f
-        → IsSaidBy (cond a (Some opening.Setup) (cond b (Some opening.Join) (cond c (Some opening.Create) (cond d (Some opening.Settle) (cond e (Some opening.Open) (cond f (Some opening.Settle) None)))))) x → IsDue n x
+        → IsSaidBy (cond a (Some opening.Setup) (cond b (Some opening.Join)
+        (cond c (Some opening.Create) (cond d (Some opening.Settle) (cond e (Some opening.Open) (cond f (Some opening.Settle) None)))))) x → IsDue n x
     go true b c d e f p q r s t u is = subst (IsDue n) (sym is) tt
     go false true c d e f p q r s t u is = subst (IsDue n) (sym is) tt
     go false false true d e f p q r s t u is = subst (IsDue n) (sym is) (let k : n < 4 = omega (arith, eqb-true (n + 1) 3 r) in k)
@@ -40,7 +41,15 @@ early_is_due n x h = go (n + 1 == 1) (n + 1 == 2) (n + 1 == 3) (n + 1 == 4) (n +
     go false false false false true f p q r s t u is = subst (IsDue n) (sym is) (let k : n ≡ 4 = omega (arith, eqb-true (n + 1) 5 t) in k)
     go false false false false false true p q r s t u is = subst (IsDue n) (sym is) tt
     go false false false false false false p q r s t u is =
-        free_is_due n x (omega (arith, eqb-false (n + 1) 1 p, eqb-false (n + 1) 2 q, eqb-false (n + 1) 3 r, eqb-false (n + 1) 4 s, eqb-false (n + 1) 5 t, eqb-false (n + 1) 6 u)) is
+        free_is_due n x (omega (
+          arith,
+          eqb-false (n + 1) 1 p,
+          eqb-false (n + 1) 2 q,
+          eqb-false (n + 1) 3 r,
+          eqb-false (n + 1) 4 s,
+          eqb-false (n + 1) 5 t,
+          eqb-false (n + 1) 6 u,
+        )) is
 
 -- no order to open is under way
 abbrev pub NoOpen : Option Order → Type 0

@@ -1,5 +1,6 @@
 -- What lines and words are read as.
-use Rattle.std.proofs.Common.{◌≡◌, ◌↔◌, ℕ, ◌+◌, ◌≤◌, Bool, true, false, cond, List, [], ◌∷◌, ◌++◌, length, Option, Some, None, Result, Ok, Err, refl, sym, subst, arith}
+use Rattle.std.proofs.Common.{◌≡◌, ◌↔◌, ℕ, ◌+◌, ◌≤◌, Bool, true, false, cond, List, [], ◌∷◌, ◌++◌, length}
+use Rattle.std.proofs.Common.{Option, Some, None, Result, Ok, Err, refl, sym, subst, arith}
 use Rattle.std.specs.Str.{IsUtf8, is_utf8}
 use Rattle.std.proofs.lemmas.Str.{IsUtf8-from_is_utf8, is_utf8-from_IsUtf8}
 use Rattle.std.proofs.lemmas.Bool.{cond-true}
@@ -43,9 +44,11 @@ says_line n bytes line lines (Err column) e free later = Say.bad_line free (pars
 
 -- a line is past a limit, or says what the reader answers
 says_within : (n bytes : ℕ) (line : List ℕ) (lines : List (List ℕ)) (limit : Option Ended) → limit_of n (bytes + length line) ≡ limit
-    → Say (n + 1) (bytes + length line) lines (schedule_from (n + 1) (bytes + length line) lines) → Say n bytes (line ∷ lines) (schedule_from n bytes (line ∷ lines))
+    → Say (n + 1) (bytes + length line) lines (schedule_from (n + 1) (bytes + length line) lines)
+    → Say n bytes (line ∷ lines) (schedule_from n bytes (line ∷ lines))
 says_within n bytes line lines (Some ended) e later = subst (Say n bytes (line ∷ lines)) (sym (schedule_stop n bytes line lines ended e)) (Say.past_limit e)
-says_within n bytes line lines None e later = subst (Say n bytes (line ∷ lines)) (sym (schedule_goes n bytes line lines e)) (says_line n bytes line lines (parsed_early (n + 1) line) refl e later)
+says_within n bytes line lines None e later = subst (Say n bytes (line ∷ lines)) (sym (schedule_goes n bytes line lines e))
+    (says_line n bytes line lines (parsed_early (n + 1) line) refl e later)
 
 -- the steps of a schedule are those that its lines say
 says : (lines : List (List ℕ)) (n bytes : ℕ) → Say n bytes lines (schedule_from n bytes lines)
@@ -62,7 +65,8 @@ abbrev Unknown : ℕ → Result Command ℕ → Type 0
 Unknown most read = (place : ℕ) × ((place ≤ most) × (read ≡ Err place))
 
 -- an empty word stands behind the first word
-empty_behind : (front words : List (List ℕ)) (known : Bool) → Unknown (length front + 2) (cond {A = Result Command ℕ} known (alone Replay 2 (front ++ [] ∷ words)) (Err 1))
+empty_behind : (front words : List (List ℕ)) (known : Bool)
+    → Unknown (length front + 2) (cond {A = Result Command ℕ} known (alone Replay 2 (front ++ [] ∷ words)) (Err 1))
 empty_behind front words false = (1, (omega arith, refl))
 empty_behind [] words true = (2, (omega arith, refl))
 empty_behind (word ∷ front) words true = (2, (omega arith, refl))

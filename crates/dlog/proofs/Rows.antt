@@ -1,5 +1,6 @@
 -- The rows that a writer makes, as plain lists: each may follow those before it.
-use Rattle.std.proofs.Common.{◌≡◌, ℕ, ◌+◌, ◌<◌, ◌≤◌, Bool, true, false, nat_le, ◌==◌, List, [], ◌∷◌, ◌++◌, length, map, Some, refl, sym, ap, ◌∙◌, subst, arith, le-leb, append_assoc, append-nil}
+use Rattle.std.proofs.Common.{◌≡◌, ℕ, ◌+◌, ◌<◌, ◌≤◌, Bool, true, false, nat_le, ◌==◌, List, [], ◌∷◌, ◌++◌, length}
+use Rattle.std.proofs.Common.{map, Some, refl, sym, ap, ◌∙◌, subst, arith, le-leb, append_assoc, append-nil}
 use Rattle.std.specs.Prelude.{slice_get}
 use Rattle.std.specs.List.{list_any, list_all}
 use Rattle.std.proofs.lemmas.Bool.{and_from, and_parts, and_right, or_from, or_left, or_right, ne_eqb, leb-true}
@@ -62,7 +63,8 @@ none_above n m xs below h = none_by (λ k. nat_le k n) (λ k. k == m) (λ k le. 
 -- no row has a number above all of theirs
 none_from : (c n m : ℕ) (rows : List Row) → n < m → list_all (λ (r : Row). nat_le r.origin.call n) rows ≡ true → list_any (is_from c m) rows ≡ false
 none_from c n m rows below h =
-    none_by (λ (r : Row). nat_le r.origin.call n) (is_from c m) (λ r le. and_right (r.origin.client == c) (r.origin.call == m) (not_above n m r.origin.call below le)) rows h
+    none_by (λ (r : Row). nat_le r.origin.call n) (is_from c m) (λ r le. and_right (r.origin.client == c) (r.origin.call == m)
+    (not_above n m r.origin.call below le)) rows h
 
 -- places
 
@@ -144,14 +146,17 @@ took_take g rows txid payload le t =
     let step : is_before here next ≡ true = before_slot segment g.sent (length g.filling) in
     let all_before : list_all (λ (x : Row). is_before x.place next) (rows ++ r ∷ []) ≡ true =
     all_push (λ (x : Row). is_before x.place next) rows r
-    (all_weaker (λ (x : Row). is_before x.place here) (λ (x : Row). is_before x.place next) (λ x h. before_trans x.place here next h step) rows t.places) step in
+    (all_weaker (λ (x : Row). is_before x.place here) (λ (x : Row). is_before x.place next) (λ x h. before_trans x.place here next h step) rows t.places) step
+    in
     record {
       in_turn = in_turn_push g.client [] rows r t.in_turn (next_follows g rows txid payload le t);
       count = length_push rows r ∙ ap (λ n. n + 1) t.count;
       last = ap (last_or 0) (map_push (λ (x : Row). x.txid) rows r) ∙ last_or_push 0 (map (λ (x : Row). x.txid) rows) txid;
-      places = subst (λ n. list_all (λ (x : Row). is_before x.place (place segment g.sent n)) (rows ++ r ∷ []) ≡ true) (sym (length_push g.filling r)) all_before;
+      places = subst (λ n. list_all (λ (x : Row). is_before x.place (place segment g.sent n)) (rows ++ r ∷ []) ≡ true)
+          (sym (length_push g.filling r)) all_before;
       calls = all_push (λ (x : Row). nat_le x.origin.call (g.taken + 1)) rows r
-          (all_weaker (λ (x : Row). nat_le x.origin.call g.taken) (λ (x : Row). nat_le x.origin.call (g.taken + 1)) (λ x h. le_more g.taken (g.taken + 1) x.origin.call (omega arith) h) rows t.calls)
+          (all_weaker (λ (x : Row). nat_le x.origin.call g.taken) (λ (x : Row). nat_le x.origin.call (g.taken + 1))
+          (λ x h. le_more g.taken (g.taken + 1) x.origin.call (omega arith) h) rows t.calls)
           (le-leb (g.taken + 1) (g.taken + 1) (omega arith));
     }
 
@@ -163,7 +168,8 @@ took_send g rows t = record {
   count = t.count;
   last = t.last;
   places = all_weaker (λ (x : Row). is_before x.place (place segment g.sent (length g.filling))) (λ (x : Row). is_before x.place (place segment (g.sent + 1) 0))
-      (λ x h. before_trans x.place (place segment g.sent (length g.filling)) (place segment (g.sent + 1) 0) h (before_entry segment g.sent (length g.filling))) rows t.places;
+      (λ x h. before_trans x.place (place segment g.sent (length g.filling)) (place segment (g.sent + 1) 0) h
+      (before_entry segment g.sent (length g.filling))) rows t.places;
   calls = t.calls;
 }
 

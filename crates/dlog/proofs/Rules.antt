@@ -6,7 +6,8 @@ use Rattle.dl_types.specs.declared.refusal.Refusal.{Refusal}
 use Rattle.dl_types.specs.declared.row.Row.{Row}
 use Rattle.dl_types.specs.Places.{is_before, is_at_most}
 use Rattle.dl_transcript.specs.declared.event.Event.TheVariants.{Joined, Writer, Took, Refused}
-use Rattle.dl_transcript.specs.Legal.{History, Leaves, effect_on_read, may_refuse, after_refusal, keeps, sees, has, last_or, is_from, is_taken, taken_at, stands_at}
+use Rattle.dl_transcript.specs.Legal.{History, Leaves, effect_on_read, may_refuse, after_refusal, keeps}
+use Rattle.dl_transcript.specs.Legal.{sees, has, last_or, is_from, is_taken, taken_at, stands_at}
 use Rattle.dlog.specs.Machine.{grow, ack}
 
 -- a session is one more than the last
@@ -53,7 +54,8 @@ pub record MayGrow (s : History) (stream : List ℕ) (r : Row) : Type 0 where
 pub keeps_grow : (s : History) (stream : List ℕ) (r : Row) → MayGrow s stream r → keeps s (grow stream r) ≡ true
 unfolding keeps
 keeps_grow s stream r h =
-    and_from _ _ (and_from _ _ (and_from _ _ (and_from _ _ (and_from _ _ (eq-eqb _ _ h.segment) h.above) h.mark) (le-leb _ _ h.txid)) h.taken) (not_from_false _ h.fresh)
+    and_from _ _ (and_from _ _ (and_from _ _ (and_from _ _ (and_from _ _ (eq-eqb _ _ h.segment) h.above) h.mark) (le-leb _ _ h.txid)) h.taken)
+    (not_from_false _ h.fresh)
 
 -- an acknowledgement names the place where its record stands, and comes once
 pub record MayAck (s : History) (r : Row) : Type 0 where

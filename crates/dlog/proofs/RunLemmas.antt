@@ -1,5 +1,6 @@
 -- A run under way, a line and a piece at a time.
-use Rattle.std.proofs.Common.{◌≡◌, ℕ, ◌+◌, ◌<◌, ◌≤◌, Bool, true, false, cond, eqb, nat_le, nat_lt, List, [], ◌∷◌, ◌++◌, length, Option, Some, None, Result, Ok, Err, refl, sym, ap, ◌∙◌, subst, append_assoc, arith, length-append}
+use Rattle.std.proofs.Common.{◌≡◌, ℕ, ◌+◌, ◌<◌, ◌≤◌, Bool, true, false, cond, eqb, nat_le, nat_lt, List, [], ◌∷◌, ◌++◌, length, Option}
+use Rattle.std.proofs.Common.{Some, None, Result, Ok, Err, refl, sym, ap, ◌∙◌, subst, append_assoc, arith, length-append}
 use Rattle.std.proofs.lemmas.Bool.{leb-false, ltb-false, ltb-true, lt-ltb, eqb-false}
 use Rattle.std.proofs.lemmas.List.{append-nil, nil_from_length}
 use Rattle.std.proofs.lemmas.Grind.{flat_map-append}
@@ -13,7 +14,8 @@ use Rattle.dlog.specs.declared.ended.Ended.TheVariants.{Done, BadLine, Limit}
 use Rattle.dl_text.specs.TextLines.{lines_of}
 use Rattle.dlog.specs.Machine.{one}
 use Rattle.dlog.specs.Run.{Schedule, line_limit, schedule_limit, no_steps, with_line, schedule_from, shown_from}
-use Rattle.dlog.specs.RunStates.{RunState, with_front, outcome_of, behind, after_lines, ends_as, outcome_at, size_of, limit_of, IsReady, IsStop, TakesLine, Feeds}
+use Rattle.dlog.specs.RunStates.{RunState, with_front, outcome_of, behind, after_lines, ends_as, outcome_at}
+use Rattle.dlog.specs.RunStates.{size_of, limit_of, IsReady, IsStop, TakesLine, Feeds}
 use Rattle.dl_text.specs.TextLines.{has_feed, IsFirstLine}
 use Rattle.dl_text.proofs.TextLineLemmas.{feed_both, lines_last, lines_begin, lines_split}
 use Rattle.dlog.proofs.MachineLemmas.{one_within}
@@ -38,7 +40,8 @@ print_more line events later =
 pub schedule_stop : (n bytes : ℕ) (line : List ℕ) (lines : List (List ℕ)) (ended : Ended) → limit_of n (bytes + length line) ≡ Some ended
     → schedule_from n bytes (line ∷ lines) ≡ no_steps ended
 unfolding schedule_from
-schedule_stop n bytes line lines ended h = go (nat_le line_limit n) (nat_lt schedule_limit (bytes + length line)) (Limit Lines line_limit) (Limit Bytes schedule_limit) _ h
+schedule_stop n bytes line lines ended h = go (nat_le line_limit n) (nat_lt schedule_limit (bytes + length line)) (Limit Lines line_limit)
+    (Limit Bytes schedule_limit) _ h
   where
     go : (a b : Bool) (x y : Ended) (later : Schedule) → cond a (Some x) (cond b (Some y) None) ≡ Some ended
         → cond a (no_steps x) (cond b (no_steps y) later) ≡ no_steps ended
@@ -50,7 +53,8 @@ schedule_stop n bytes line lines ended h = go (nat_le line_limit n) (nat_lt sche
 pub schedule_goes : (n bytes : ℕ) (line : List ℕ) (lines : List (List ℕ)) → limit_of n (bytes + length line) ≡ None
     → schedule_from n bytes (line ∷ lines) ≡ with_line (n + 1) (parsed_early (n + 1) line) (schedule_from (n + 1) (bytes + length line) lines)
 unfolding schedule_from
-schedule_goes n bytes line lines h = go (nat_le line_limit n) (nat_lt schedule_limit (bytes + length line)) (Limit Lines line_limit) (Limit Bytes schedule_limit) _ h
+schedule_goes n bytes line lines h = go (nat_le line_limit n) (nat_lt schedule_limit (bytes + length line)) (Limit Lines line_limit)
+    (Limit Bytes schedule_limit) _ h
   where
     go : (a b : Bool) (x y : Ended) (later : Schedule) → cond {A = Option Ended} a (Some x) (cond b (Some y) None) ≡ None
         → cond a (no_steps x) (cond b (no_steps y) later) ≡ later
@@ -77,16 +81,19 @@ pub bad_line_stops : (p : RunState) (line : List ℕ) (column : ℕ) → limit_o
     → (lines : List (List ℕ)) → after_lines p (line ∷ lines) ≡ outcome_at p (BadLine (p.lines + 1) column)
 bad_line_stops p line column h bad lines =
     stop_prints p (schedule_from p.lines p.bytes (line ∷ lines)) (BadLine (p.lines + 1) column)
-    (schedule_goes p.lines p.bytes line lines h ∙ ap (λ (r : Result Step ℕ). with_line (p.lines + 1) r (schedule_from (p.lines + 1) (p.bytes + length line) lines)) bad)
+    (schedule_goes p.lines p.bytes line lines h
+    ∙ ap (λ (r : Result Step ℕ). with_line (p.lines + 1) r (schedule_from (p.lines + 1) (p.bytes + length line) lines)) bad)
 
 -- a step prints what it shows, before what follows
 step_prints : (p : RunState) (length : ℕ) (step : Step) (later : Schedule)
-    → with_front p.text (outcome_of p.state p.lines (with_line (p.lines + 1) (Ok step) later)) ≡ with_front (behind p length step).text (outcome_of (one p.state step).0 (p.lines + 1) later)
+    → with_front p.text (outcome_of p.state p.lines (with_line (p.lines + 1) (Ok step) later)) ≡ with_front (behind p length step).text
+    (outcome_of (one p.state step).0 (p.lines + 1) later)
 unfolding shown_from
 step_prints p length step later =
     let front = print_all (p.lines + 1) (one p.state step).1 in
     let back = print_transcript (shown_from (one p.state step).0 (p.lines + 1) later.steps) in
-    ap (λ (t : List ℕ). record { text = p.text ++ t; ended = later.ended }) (print_more (p.lines + 1) (one p.state step).1 (shown_from (one p.state step).0 (p.lines + 1) later.steps))
+    ap (λ (t : List ℕ). record { text = p.text ++ t; ended = later.ended })
+    (print_more (p.lines + 1) (one p.state step).1 (shown_from (one p.state step).0 (p.lines + 1) later.steps))
     ∙ ap (λ (t : List ℕ). record { text = t; ended = later.ended }) (sym (append_assoc p.text front back))
 
 -- a run goes on behind a line of the grammar
@@ -94,7 +101,8 @@ line_goes : (p : RunState) (line : List ℕ) (step : Step) → limit_of p.lines 
     → (lines : List (List ℕ)) → after_lines p (line ∷ lines) ≡ after_lines (behind p (length line) step) lines
 line_goes p line step h good lines =
     let later = schedule_from (p.lines + 1) (p.bytes + length line) lines in
-    ap (λ (x : Schedule). with_front p.text (outcome_of p.state p.lines x)) (schedule_goes p.lines p.bytes line lines h ∙ ap (λ (r : Result Step ℕ). with_line (p.lines + 1) r later) good)
+    ap (λ (x : Schedule). with_front p.text (outcome_of p.state p.lines x)) (schedule_goes p.lines p.bytes line lines h
+    ∙ ap (λ (r : Result Step ℕ). with_line (p.lines + 1) r later) good)
     ∙ step_prints p (length line) step later
 
 -- the limits that a line keeps
@@ -158,7 +166,12 @@ takes_size p q size back step k e = ap size_of e ∙ omega (arith, k.whole)
 pub ready_behind : (p q : RunState) (size : ℕ) (step : Step) → IsReady p → limit_of p.lines (p.bytes + size) ≡ None → q ≡ behind p size step → IsReady q
 ready_behind p q size step ready h e =
     let w = within_limits p.lines (p.bytes + size) h in
-    subst IsReady (sym e) (record { within = one_within (p.lines + 1) p.state step ready.within; plain = refl; lines = omega (arith, w.0); bytes = omega (arith, w.1) })
+    subst IsReady (sym e) (record {
+      within = one_within (p.lines + 1) p.state step ready.within;
+      plain = refl;
+      lines = omega (arith, w.0);
+      bytes = omega (arith, w.1);
+    })
 
 -- a piece
 
@@ -211,7 +224,8 @@ keeps_limit_go p [] more ended plain some h = absurd (omega arith)
 keeps_limit_go p (b ∷ bytes) more ended plain some h =
     let w = lines_begin b bytes more plain in
     let longer : p.bytes + length (b ∷ bytes) ≤ p.bytes + length (b ∷ bytes ++ w.tail) = omega (arith, length-append (b ∷ bytes) w.tail) in
-    ap (after_lines p) w.parts ∙ limit_stops p (b ∷ bytes ++ w.tail) ended (limit_longer p.lines (p.bytes + length (b ∷ bytes)) (p.bytes + length (b ∷ bytes ++ w.tail)) ended longer h) w.later
+    ap (after_lines p) w.parts ∙ limit_stops p (b ∷ bytes ++ w.tail) ended
+    (limit_longer p.lines (p.bytes + length (b ∷ bytes)) (p.bytes + length (b ∷ bytes ++ w.tail)) ended longer h) w.later
 
 -- pending bytes past a limit are the stop
 pub keeps_limit : (p : RunState) (piece : List ℕ) (ended : Ended) → has_feed p.pending ≡ false → has_feed piece ≡ false
@@ -225,7 +239,8 @@ keeps_limit p piece ended plain other some h = (
 
 -- bytes without a line feed are pending
 pub keeps_more : (p q : RunState) (piece : List ℕ) → q ≡ record p { pending = p.pending ++ piece } → Feeds p q piece None
-keeps_more p q piece e = subst (λ (x : RunState). Feeds p x piece None) (sym e) (λ more. ap (λ (t : List ℕ). after_lines p (lines_of t)) (sym (append_assoc p.pending piece more)))
+keeps_more p q piece e = subst (λ (x : RunState). Feeds p x piece None) (sym e)
+    (λ more. ap (λ (t : List ℕ). after_lines p (lines_of t)) (sym (append_assoc p.pending piece more)))
 
 -- and the run can go on
 pub ready_more : (p q : RunState) (piece : List ℕ) → IsReady p → has_feed piece ≡ false

@@ -111,7 +111,13 @@ writer_leads sessions c stream seen h =
       fresh = ap (λ (x : StreamHistory). has segment x.writers) (h.streams stream);
     }))
     (record {
-      log = record { rows = []; grown = []; took = took_none c stream; parts = refl; seen = writer_fits sessions c stream seen h.joined (h.streams stream) (h.clients c) };
+      log = record {
+        rows = [];
+        grown = [];
+        took = took_none c stream;
+        parts = refl;
+        seen = writer_fits sessions c stream seen h.joined (h.streams stream) (h.clients c);
+      };
       order = refl;
     })
 
@@ -120,7 +126,8 @@ finish_leads : (sessions : ℕ) (o : Option Order) (log : Option Log) (seen : Hi
     → StepLeads seen (finish (state sessions o log) o)
 unfolding keeps sees
 finish_leads sessions None log seen h = leads_none (Coupled (state sessions None log)) seen h
-finish_leads sessions (Some (order.Create c stream)) log seen h = leads_one (Coupled (state sessions None log)) seen (Created c stream) refl (record { log = h.log; order = no_order log })
+finish_leads sessions (Some (order.Create c stream)) log seen h = leads_one (Coupled (state sessions None log)) seen (Created c stream) refl
+    (record { log = h.log; order = no_order log })
 finish_leads sessions (Some (order.Open c stream)) None seen h = writer_leads sessions c stream seen h.log
 finish_leads sessions (Some (order.Open c stream)) (Some g) seen h = absurd (none-some (order.Open c stream) (sym h.order))
 
@@ -161,7 +168,9 @@ one_leads s (step.Join c) seen may h = join_leads s c seen h
 one_leads s (step.Create c stream) seen may h = order_leads s (order.Create c stream) seen may h
 one_leads s (step.Open c stream) seen may h = order_leads s (order.Open c stream) seen may h
 one_leads s (step.Append c txid payload) seen may h =
-    on_log_leads (λ g. append g txid payload) (Nothing ∷ []) s.sessions s.order s.log seen (λ g fit. append_leads s.sessions g txid payload seen fit) (nothing_kept seen) h
-one_leads s (step.Flush c) seen may h = on_log_leads flush (Nothing ∷ []) s.sessions s.order s.log seen (λ g fit. flush_leads s.sessions g seen fit) (nothing_kept seen) h
+    on_log_leads (λ g. append g txid payload) (Nothing ∷ []) s.sessions s.order s.log seen (λ g fit. append_leads s.sessions g txid payload seen fit)
+    (nothing_kept seen) h
+one_leads s (step.Flush c) seen may h = on_log_leads flush (Nothing ∷ []) s.sessions s.order s.log seen (λ g fit. flush_leads s.sessions g seen fit)
+    (nothing_kept seen) h
 one_leads s step.Settle seen may h = settle_leads s seen h
 one_leads s _ seen may h = leads_none (Coupled s) seen h

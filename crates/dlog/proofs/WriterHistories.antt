@@ -1,5 +1,6 @@
 -- What a transcript has shown of a writer, and how the events of its records lead on.
-use Rattle.std.proofs.Common.{◌≡◌, ℕ, ◌+◌, ◌-◌, ◌≤◌, Bool, true, false, cond, ◌&&◌, nat_le, ◌==◌, List, [], ◌∷◌, ◌++◌, length, map, Some, None, refl, sym, ap, ◌∙◌, subst, arith, eq-eqb, le-leb, append_assoc, append-nil}
+use Rattle.std.proofs.Common.{◌≡◌, ℕ, ◌+◌, ◌-◌, ◌≤◌, Bool, true, false, cond, ◌&&◌, nat_le, ◌==◌, List, [], ◌∷◌, ◌++◌, length}
+use Rattle.std.proofs.Common.{map, Some, None, refl, sym, ap, ◌∙◌, subst, arith, eq-eqb, le-leb, append_assoc, append-nil}
 use Rattle.std.specs.Prelude.{slice_get, bytes_eq, option_map}
 use Rattle.std.specs.List.{list_any, list_all, flat_map}
 use Rattle.std.proofs.lemmas.Bool.{and_from, cond-true, cond-false, eqb-true, ne_eqb, not_from_false}
@@ -10,7 +11,8 @@ use Rattle.dl_types.specs.declared.dlsn.Dlsn.{Dlsn}
 use Rattle.dl_types.specs.declared.row.Row.{Row}
 use Rattle.dl_types.specs.Places.{is_before, is_at_most, is_same, first_place}
 use Rattle.dl_transcript.specs.declared.event.Event.TheVariants.{Took, Writer}
-use Rattle.dl_transcript.specs.Legal.{History, StreamHistory, ClientHistory, TakenRecord, new_stream, new_client, sees, put_stream, put_client, last_or, is_from, is_taken, taken_at, stands_at}
+use Rattle.dl_transcript.specs.Legal.{History, StreamHistory, ClientHistory, TakenRecord, new_stream, new_client, sees}
+use Rattle.dl_transcript.specs.Legal.{put_stream, put_client, last_or, is_from, is_taken, taken_at, stands_at}
 use Rattle.dl_transcript.specs.Histories.{put_reader}
 use Rattle.dlog.specs.Machine.{segment, grow, ack, entry_events}
 use Rattle.dlog.proofs.Leads.{Leads, leads_none, leads_one, leads_both}
@@ -87,7 +89,8 @@ taken_there s c n stream rows front r back seen parts number =
 
 -- it is the one that a growing row asks for
 stream_same : (stream : List ℕ) (r : Row) → is_taken (Some (as_taken stream r)) stream r.txid r.payload ≡ true
-stream_same stream r = and_from _ _ (and_from _ _ ((bytes_eq-Decides stream stream).1 refl) (eq-eqb r.txid r.txid refl)) ((bytes_eq-Decides r.payload r.payload).1 refl)
+stream_same stream r = and_from _ _ (and_from _ _ ((bytes_eq-Decides stream stream).1 refl) (eq-eqb r.txid r.txid refl))
+    ((bytes_eq-Decides r.payload r.payload).1 refl)
 
 -- a record is taken
 took_fits : (w : WriterHistory) (s : History) (call : ℕ) (r : Row) → Fits w s
@@ -120,7 +123,8 @@ may_grow w s r back t parts f = record {
   above = subst (λ rows. list_all (λ (x : Row). is_before x.place r.place) rows ≡ true) (sym f.rows.grown) t.above;
   mark = subst (λ d. is_at_most d r.place ≡ true) (sym f.rows.mark) (not_from_false (is_before r.place first_place) (not_before_first r.place t.in_segment));
   txid = subst (λ rows. last_or 0 (map (λ (x : Row). x.txid) rows) ≤ r.txid) (sym f.rows.grown) t.ids;
-  taken = ap (λ o. is_taken o w.stream r.txid r.payload) (taken_there s r.origin.client r.origin.call w.stream w.taken w.grown r back (of_client w s r.origin.client t.client f).taken parts t.call)
+  taken = ap (λ o. is_taken o w.stream r.txid r.payload) (taken_there s r.origin.client r.origin.call w.stream w.taken w.grown r back
+      (of_client w s r.origin.client t.client f).taken parts t.call)
       ∙ stream_same w.stream r;
   fresh = subst (λ rows. list_any (is_from r.origin.client r.origin.call) rows ≡ false) (sym f.rows.grown) t.fresh;
 }
@@ -145,7 +149,8 @@ grow_leads w s r back t parts f =
 -- the next rows grow, one after another
 grows_lead : (rows back : List Row) (w : WriterHistory) (s : History) → InTurn w.client [] w.taken → w.taken ≡ w.grown ++ (rows ++ back) → Fits w s
     → Leads (Fits (record w { grown = w.grown ++ rows })) s (map (grow w.stream) rows)
-grows_lead [] back w s t parts f = leads_none (Fits (record w { grown = w.grown ++ [] })) s (subst (λ g. Fits (record w { grown = g }) s) (sym (append-nil w.grown)) f)
+grows_lead [] back w s t parts f = leads_none (Fits (record w { grown = w.grown ++ [] })) s
+    (subst (λ g. Fits (record w { grown = g }) s) (sym (append-nil w.grown)) f)
 grows_lead (r ∷ rows) back w s t parts f =
     let now : WriterHistory = record w { grown = w.grown ++ r ∷ [] } in
     subst (λ g. Leads (Fits (record w { grown = g })) s (map (grow w.stream) (r ∷ rows))) (append_assoc w.grown (r ∷ []) rows)
@@ -162,7 +167,8 @@ stands_there : (s : History) (c n : ℕ) (stream : List ℕ) (rows front : List 
     → r.origin.client ≡ c → r.origin.call ≡ n → (s.streams stream).rows ≡ rows → rows ≡ front ++ r ∷ back → stands_at s (taken_at s c n) c n r.place ≡ true
 stands_there s c n stream rows front r back taken client call seen parts =
     let here : (is_from c n r && is_same r.place r.place) ≡ true =
-    and_from (is_from c n r) (is_same r.place r.place) (and_from (r.origin.client == c) (r.origin.call == n) (eq-eqb r.origin.client c client) (eq-eqb r.origin.call n call)) (same_place r.place) in
+    and_from (is_from c n r) (is_same r.place r.place) (and_from (r.origin.client == c) (r.origin.call == n) (eq-eqb r.origin.client c client)
+    (eq-eqb r.origin.call n call)) (same_place r.place) in
     ap (λ o. stands_at s o c n r.place) taken
     ∙ ap (list_any (λ x. is_from c n x && is_same x.place r.place)) (seen ∙ parts)
     ∙ any_at (λ (x : Row). is_from c n x && is_same x.place r.place) front r back here
@@ -190,8 +196,10 @@ acked_fits w s r client call f =
       rows = f.rows;
       records = subst (ClientFits w.stream w.taken (w.acked + 1)) (sym (put_client_there s r.origin.client w.client then (sym client))) (record {
         taken = mine.taken;
-        acked = and_from (nat_le r.origin.call (w.acked + 1)) (list_all (λ n. nat_le n (w.acked + 1)) (s.clients r.origin.client).acked) (le-leb r.origin.call (w.acked + 1) (omega (arith, call)))
-            (all_weaker (λ n. nat_le n w.acked) (λ n. nat_le n (w.acked + 1)) (λ n h. le_more w.acked (w.acked + 1) n (omega arith) h) (s.clients r.origin.client).acked mine.acked);
+        acked = and_from (nat_le r.origin.call (w.acked + 1)) (list_all (λ n. nat_le n (w.acked + 1)) (s.clients r.origin.client).acked)
+            (le-leb r.origin.call (w.acked + 1) (omega (arith, call)))
+            (all_weaker (λ n. nat_le n w.acked) (λ n. nat_le n (w.acked + 1)) (λ n h. le_more w.acked (w.acked + 1) n (omega arith) h)
+            (s.clients r.origin.client).acked mine.acked);
       });
     }
 
@@ -216,7 +224,8 @@ acks_lead (r ∷ rows) front later w s t all parts acks f =
     let with_later : w.taken ≡ front ++ r ∷ (rows ++ later) = all ∙ ap (λ xs. xs ++ later) parts ∙ append_assoc front (r ∷ rows) later in
     leads_both (Fits now) (Fits (record now { acked = length now.grown })) s (ack r ∷ []) (map ack rows)
     (ack_leads w s front r rows (rows ++ later) t with_later parts acks f)
-    (λ u h. acks_lead rows (front ++ r ∷ []) later now u t all (parts ∙ sym (append_assoc front (r ∷ []) rows)) (ap (λ n. n + 1) acks ∙ sym (length_push front r)) h)
+    (λ u h. acks_lead rows (front ++ r ∷ []) later now u t all (parts ∙ sym (append_assoc front (r ∷ []) rows)) (ap (λ n. n + 1) acks
+    ∙ sym (length_push front r)) h)
 
 -- all that stands is acknowledged
 abbrev pub upto : WriterHistory → List Row → WriterHistory
@@ -231,7 +240,7 @@ confirmed_leads rows back grown w s t parts f =
     (grows_lead rows back (upto w grown) s t parts f)
     (λ u h. acks_lead rows grown back (record (upto w grown) { grown = grown ++ rows }) u t (parts ∙ sym (append_assoc grown rows back)) refl refl h)
 
--- entries are entry_events, one after another
+-- entries are confirmed, one after another
 pub entries_lead : (entries : List (List Row)) (back grown : List Row) (w : WriterHistory) (s : History) → InTurn w.client [] w.taken
     → w.taken ≡ grown ++ (flat_map (λ rows. rows) entries ++ back) → Fits (upto w grown) s
     → Leads (Fits (upto w (grown ++ flat_map (λ rows. rows) entries))) s (flat_map (entry_events w.stream) entries)
@@ -241,7 +250,8 @@ entries_lead (rows ∷ entries) back grown w s t parts f =
     let rest : List Row = flat_map (λ (x : List Row). x) entries in
     let now : w.taken ≡ grown ++ (rows ++ (rest ++ back)) = parts ∙ ap (λ xs. grown ++ xs) (append_assoc rows rest back) in
     subst (λ g. Leads (Fits (upto w g)) s (entry_events w.stream rows ++ flat_map (entry_events w.stream) entries)) (append_assoc grown rows rest)
-    (leads_both (Fits (upto w (grown ++ rows))) (Fits (upto w ((grown ++ rows) ++ rest))) s (entry_events w.stream rows) (flat_map (entry_events w.stream) entries)
+    (leads_both (Fits (upto w (grown ++ rows))) (Fits (upto w ((grown ++ rows) ++ rest))) s (entry_events w.stream rows)
+    (flat_map (entry_events w.stream) entries)
     (confirmed_leads rows (rest ++ back) grown w s t now f)
     (λ u h. entries_lead entries back (grown ++ rows) w u t (now ∙ sym (append_assoc grown rows (rest ++ back))) h))
 

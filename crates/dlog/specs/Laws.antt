@@ -27,7 +27,8 @@ LinesAreRead = (n : ℕ) (line : List ℕ) → IsRead n line
 -- end, to a line that is past a limit, or to one that is within them and stops to be a line at a column.
 pub data Say : ℕ → ℕ → List (List ℕ) → Schedule → Type 0 where
   no_line : {n bytes : ℕ} → Say n bytes [] (no_steps Done)
-  past_limit : {n bytes : ℕ} {line : List ℕ} {lines : List (List ℕ)} {ended : Ended} → limit_of n (bytes + length line) ≡ Some ended → Say n bytes (line ∷ lines) (no_steps ended)
+  past_limit : {n bytes : ℕ} {line : List ℕ} {lines : List (List ℕ)} {ended : Ended} → limit_of n (bytes + length line) ≡ Some ended
+      → Say n bytes (line ∷ lines) (no_steps ended)
   bad_line : {n bytes : ℕ} {line : List ℕ} {lines : List (List ℕ)} {column : ℕ} → limit_of n (bytes + length line) ≡ None
       → StopsAt (IsEarly (n + 1)) step_line line column → Say n bytes (line ∷ lines) (no_steps (BadLine (n + 1) column))
   one_step : {n bytes : ℕ} {line : List ℕ} {lines : List (List ℕ)} {s : Step} {rest : Schedule} → limit_of n (bytes + length line) ≡ None

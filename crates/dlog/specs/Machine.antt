@@ -21,7 +21,7 @@ window = 64
 abbrev pub segment : ℕ
 segment = 1
 
--- the bytes of a record, and of an entry: a header, and its records
+-- the bytes of a record: a header, and its payload
 abbrev pub record_size : ℕ → ℕ
 record_size bytes = 20 + bytes
 
@@ -30,7 +30,7 @@ abbrev pub entry_size : List Row → ℕ
 entry_size rows = 8 + sum_by (λ (r : Row). record_size (length r.payload)) rows
 
 -- a log that a client writes: how many records were taken, and the id of the last one (0 before the first); how many
--- entries were sent; the rows of those sent and not entry_events, entry by entry; the rows of the entry under way
+-- entries were sent; the rows of those sent and not confirmed, entry by entry; the rows of the entry under way
 pub record Log : Type 0 where
   pub client : ℕ
   pub stream : List ℕ

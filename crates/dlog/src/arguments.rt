@@ -54,7 +54,8 @@ fn text_of(bytes: &[u8]) -> &str
 
 /// All words, in order.
 fn words_of(alloc: Global, arguments: &[Vec<u8>]) -> Result<Vec<Word>, NoMemory>
-    ensures { IfOk result (λ words. words.items ≡ map (λ bytes. word_text bytes.items) arguments.now) }
+    ensures { IfOk result
+        (λ words. words.items ≡ map (λ bytes. word_text bytes.items) arguments.now) }
 {
     let mut words = Vec::new(alloc);
     for bytes in arguments {

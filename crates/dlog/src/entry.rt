@@ -1,4 +1,5 @@
-ghost use Rattle.std.specs.Prelude.{◌≡◌, ◌+◌, ◌<◌, ◌≤◌, ◌++◌, ◌∷◌, [], length, nat_le, ◌==◌, OnOk, OnErr, ◌^◌};
+ghost use Rattle.std.specs.Prelude.{◌≡◌, ◌+◌, ◌<◌, ◌≤◌, ◌++◌, ◌∷◌, [], length};
+ghost use Rattle.std.specs.Prelude.{nat_le, ◌==◌, OnOk, OnErr, ◌^◌};
 ghost use Rattle.dlog.specs.Machine.{entry_size, record_size};
 
 use dl_types::entry_bytes::MAX_ENTRY;

@@ -1,4 +1,5 @@
-ghost use Rattle.dlog.specs.Laws.{EmptyWordsAreUnknown, EveryEarlyRunIsLegal, EveryRunIsLegal, LinesAreRead, SchedulesAreRead};
+ghost use Rattle.dlog.specs.Laws.{EmptyWordsAreUnknown, EveryEarlyRunIsLegal, EveryRunIsLegal};
+ghost use Rattle.dlog.specs.Laws.{LinesAreRead, SchedulesAreRead};
 
 /// A law: the reader of lines that the run rests on is exact. What it answers for a line is the step whose spelling the
 /// line is, or the column at which the line stops to be one.

@@ -1,6 +1,8 @@
-ghost use Rattle.std.specs.Prelude.{◌≡◌, ◌+◌, ◌<◌, ◌≤◌, ◌++◌, ◌∷◌, [], length, OnOk, nat_le, map, ◌^◌, List};
+ghost use Rattle.std.specs.Prelude.{◌≡◌, ◌+◌, ◌<◌, ◌≤◌, ◌++◌, ◌∷◌, [], length};
+ghost use Rattle.std.specs.Prelude.{OnOk, nat_le, map, ◌^◌, List};
 ghost use Rattle.std.specs.List.{flat_map};
-ghost use Rattle.dlog.specs.Machine.{new_log, take, send, append, flush, confirm, entry_events, grow, ack, entry_size, record_size, is_window_full};
+ghost use Rattle.dlog.specs.Machine.{new_log, take, send, append, flush, confirm, entry_events};
+ghost use Rattle.dlog.specs.Machine.{grow, ack, entry_size, record_size, is_window_full};
 ghost use Rattle.dl_types.specs.declared.entry_bytes.TheConstants.{MAX_ENTRY};
 ghost use Rattle.dl_transcript.specs.Lines.{print_event, print_all};
 ghost use Rattle.dlog.specs.Counts.{HasRoom};
@@ -89,7 +91,8 @@ impl Log {
     ) -> Result<(), NoMemory>
         requires { HasRoom self.old }
         ensures state { OnOk result (self.new ≡ (append self.old txid payload).0) }
-        ensures shown { OnOk result (out.new.items ≡ out.old.items ++ print_all line (append self.old txid payload).1) }
+        ensures shown { OnOk result
+            (out.new.items ≡ out.old.items ++ print_all line (append self.old txid payload).1) }
     {
         let bytes = payload.len();
         if bytes > PAYLOAD_LIMIT {
@@ -126,7 +129,8 @@ impl Log {
     pub fn flush(&mut self, line: u32, out: &mut Vec<u8>) -> Result<(), NoMemory>
         requires { HasRoom self.old }
         ensures state { OnOk result (self.new ≡ (flush self.old).0) }
-        ensures shown { OnOk result (out.new.items ≡ out.old.items ++ print_all line (flush self.old).1) }
+        ensures shown { OnOk result
+            (out.new.items ≡ out.old.items ++ print_all line (flush self.old).1) }
     {
         if self.filling.is_empty() {
             return put_event(out, line, &Event::Nothing);
@@ -141,7 +145,8 @@ impl Log {
     #[tactic(auto, unfolding(crate::specs::Machine::confirm))]
     pub fn confirm(&mut self, line: u32, out: &mut Vec<u8>) -> Result<(), NoMemory>
         ensures state { OnOk result (self.new ≡ (confirm self.old).0) }
-        ensures shown { OnOk result (out.new.items ≡ out.old.items ++ print_all line (confirm self.old).1) }
+        ensures shown { OnOk result
+            (out.new.items ≡ out.old.items ++ print_all line (confirm self.old).1) }
     {
         put_entries(out, line, &self.stream, &self.waiting)?;
         self.waiting.clear();
@@ -155,7 +160,9 @@ impl Log {
     }
 
     fn refuse(&self, refusal: Refusal, line: u32, out: &mut Vec<u8>) -> Result<(), NoMemory>
-        ensures { OnOk result (out.new.items ≡ out.old.items ++ print_event line (Event.Refused self.now.client refusal)) }
+        ensures { OnOk result
+            (out.new.items ≡ out.old.items ++ print_event line
+            (Event.Refused self.now.client refusal)) }
     {
         let event = Event::Refused {
             client: self.client,
@@ -176,7 +183,8 @@ impl Log {
         requires room { self.old.taken + 1 < 2 ^ 32 }
         requires fits { entry_size self.old.filling + record_size (length payload) ≤ MAX_ENTRY }
         ensures state { OnOk result (self.new ≡ (take self.old txid payload).0) }
-        ensures shown { OnOk result (out.new.items ≡ out.old.items ++ print_all line (take self.old txid payload).1) }
+        ensures shown { OnOk result
+            (out.new.items ≡ out.old.items ++ print_all line (take self.old txid payload).1) }
     {
         let call = self.taken + 1;
         let row = Row {
@@ -204,7 +212,8 @@ impl Log {
     fn send(&mut self, line: u32, out: &mut Vec<u8>) -> Result<(), NoMemory>
         requires { self.old.sent + 1 < 2 ^ 64 }
         ensures state { OnOk result (self.new ≡ (send self.old).0) }
-        ensures shown { OnOk result (out.new.items ≡ out.old.items ++ print_all line (send self.old).1) }
+        ensures shown { OnOk result
+            (out.new.items ≡ out.old.items ++ print_all line (send self.old).1) }
     {
         let entry = mem::replace(&mut self.filling, Entry::new(self.alloc));
         self.waiting.push(entry)?;
@@ -216,7 +225,8 @@ impl Log {
 
 /// Prints that each row stands in the stream.
 fn put_grows(out: &mut Vec<u8>, line: u32, stream: &Name, rows: &[Row]) -> Result<(), NoMemory>
-    ensures { OnOk result (out.new.items ≡ out.old.items ++ print_all line (map (grow stream.now) rows.now)) }
+    ensures { OnOk result
+        (out.new.items ≡ out.old.items ++ print_all line (map (grow stream.now) rows.now)) }
 {
     for row in rows {
         put_grow(out, line, stream, row)?;
@@ -236,7 +246,8 @@ fn put_acks(out: &mut Vec<u8>, line: u32, rows: &[Row]) -> Result<(), NoMemory>
 
 /// Prints that an entry is confirmed.
 fn put_entry(out: &mut Vec<u8>, line: u32, stream: &Name, rows: &[Row]) -> Result<(), NoMemory>
-    ensures { OnOk result (out.new.items ≡ out.old.items ++ print_all line (entry_events stream.now rows.now)) }
+    ensures { OnOk result
+        (out.new.items ≡ out.old.items ++ print_all line (entry_events stream.now rows.now)) }
 {
     put_grows(out, line, stream, rows)?;
     put_acks(out, line, rows)

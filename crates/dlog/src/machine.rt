@@ -49,7 +49,8 @@ impl Machine {
     pub fn step(&mut self, line: u32, step: Step, out: &mut Vec<u8>) -> Result<(), NoMemory>
         requires { Within line self.old }
         ensures state { OnOk result (self.new ≡ (one self.old step).0) }
-        ensures shown { OnOk result (out.new.items ≡ out.old.items ++ print_all line (one self.old step).1) }
+        ensures shown { OnOk result
+            (out.new.items ≡ out.old.items ++ print_all line (one self.old step).1) }
     {
         match step {
             Step::Join { client } => {
@@ -81,7 +82,8 @@ impl Machine {
     #[tactic(auto, unfolding(crate::specs::Machine::settle))]
     fn settle(&mut self, line: u32, out: &mut Vec<u8>) -> Result<(), NoMemory>
         ensures state { OnOk result (self.new ≡ (settle self.old).0) }
-        ensures shown { OnOk result (out.new.items ≡ out.old.items ++ print_all line (settle self.old).1) }
+        ensures shown { OnOk result
+            (out.new.items ≡ out.old.items ++ print_all line (settle self.old).1) }
     {
         self.finish(line, out)?;
         match &mut self.log {
@@ -93,7 +95,8 @@ impl Machine {
     /// The order under way, if there is one, ends well.
     fn finish(&mut self, line: u32, out: &mut Vec<u8>) -> Result<(), NoMemory>
         ensures state { OnOk result (self.new ≡ (finish self.old self.old.order).0) }
-        ensures shown { OnOk result (out.new.items ≡ out.old.items ++ print_all line (finish self.old self.old.order).1) }
+        ensures shown { OnOk result
+            (out.new.items ≡ out.old.items ++ print_all line (finish self.old self.old.order).1) }
     {
         match self.order.take() {
             None => Ok(()),
@@ -105,7 +108,8 @@ impl Machine {
     fn end(&mut self, order: Order, line: u32, out: &mut Vec<u8>) -> Result<(), NoMemory>
         requires { self.old.order ≡ None }
         ensures state { OnOk result (self.new ≡ (finish self.old (Some order)).0) }
-        ensures shown { OnOk result (out.new.items ≡ out.old.items ++ print_all line (finish self.old (Some order)).1) }
+        ensures shown { OnOk result
+            (out.new.items ≡ out.old.items ++ print_all line (finish self.old (Some order)).1) }
     {
         match order {
             Order::Create { client, stream } => {

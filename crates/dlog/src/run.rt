@@ -1,5 +1,6 @@
 ghost use Rattle.std.specs.Prelude.{◌≡◌, ◌+◌, ◌<◌, ◌≤◌, ◌++◌, [], length, OnOk, IfOk, None, false};
-ghost use Rattle.dlog.specs.RunStates.{RunState, TakesLine, TakesBytes, Feeds, IsReady, new_run, ends_as, outcome_at, behind, limit_of, size_of};
+ghost use Rattle.dlog.specs.RunStates.{RunState, TakesLine, TakesBytes, Feeds, IsReady, new_run};
+ghost use Rattle.dlog.specs.RunStates.{ends_as, outcome_at, behind, limit_of, size_of};
 ghost use Rattle.dl_text.specs.TextLines.{has_feed};
 ghost use Rattle.dlog.specs.Machine.{Within};
 ghost use Rattle.dlog.specs.Run.{line_limit, schedule_limit};

@@ -13,7 +13,9 @@ pub returns-in-Ok-clause-only : goal.returns-in-Ok-clause-only
 returns-in-Ok-clause-only c = λ s valid spelt. same_step (early_exact c.args.number) c.args.line.now s c.in-Ok.step c.in-Ok.ensures valid spelt
 
 pub returns-in-Err-Left-clause-only : goal.returns-in-Err-Left-clause-only
-returns-in-Err-Left-clause-only c = λ s valid spelt. no_step (early_exact c.args.number) c.args.line.now s c.in-Err-Left.left (rw c.in-Err-Left.field-0-is at c.in-Err-Left.ensures) valid spelt
+returns-in-Err-Left-clause-only c = λ s valid spelt. no_step (early_exact c.args.number) c.args.line.now s c.in-Err-Left.left
+    (rw c.in-Err-Left.field-0-is at c.in-Err-Left.ensures) valid spelt
 
 pub returns-in-Err-Left-clause-column : goal.returns-in-Err-Left-clause-column
-returns-in-Err-Left-clause-column c = whole_stops (early_exact c.args.number) c.args.line.now c.in-Err-Left.left (rw c.in-Err-Left.field-0-is at c.in-Err-Left.ensures)
+returns-in-Err-Left-clause-column c = whole_stops (early_exact c.args.number) c.args.line.now c.in-Err-Left.left
+    (rw c.in-Err-Left.field-0-is at c.in-Err-Left.ensures)

@@ -2,7 +2,8 @@ use Rattle.dl_text.proofs.ListLemmas.{more_of, last_of, stop_of}
 use Rattle.dl_text.proofs.payloads.payloads_of.Goals as goal
 
 pub returns-in_err-item : goal.returns-in_err-item
-returns-in_err-item c = stop_of _ c.loop-left.left c.loop-left.found.items c.loop-left.rest.now _ c.from_residual.result _ c.from_residual.ensures.1 c.loop-left-test.true c.in_err-item.ensures c.loop-left.invariant
+returns-in_err-item c = stop_of _ c.loop-left.left c.loop-left.found.items c.loop-left.rest.now _ c.from_residual.result _ c.from_residual.ensures.1
+    c.loop-left-test.true c.in_err-item.ensures c.loop-left.invariant
 
 pub returns-then-not-follow : goal.returns-then-not-follow
 returns-then-not-follow c =

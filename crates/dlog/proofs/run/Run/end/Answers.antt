@@ -14,12 +14,14 @@ pub returns-in-None : goal.returns-in-None
 returns-in-None c =
     let p = c.args.self.now in
     ends_last p c.take_line.new.self (p.pending ++ []) c.requires
-    (some_pending p c.is_empty.result _ (c.self.inside.pending.ok.0 ∙ ap (λ (v : RunState). length v.pending) c.self.view_is) c.is_empty.ensures c.if-is_empty.false)
+    (some_pending p c.is_empty.result _ (c.self.inside.pending.ok.0
+    ∙ ap (λ (v : RunState). length v.pending) c.self.view_is) c.is_empty.ensures c.if-is_empty.false)
     refl (rw c.in-None.is at c.in_ok-take_line.ensures.takes)
 
 pub returns-in-Some : goal.returns-in-Some
 returns-in-Some c =
     let p = c.args.self.now in
     ends_stop p c.take_line.new.self (p.pending ++ []) c.in-Some.ended c.requires
-    (some_pending p c.is_empty.result _ (c.self.inside.pending.ok.0 ∙ ap (λ (v : RunState). length v.pending) c.self.view_is) c.is_empty.ensures c.if-is_empty.false)
+    (some_pending p c.is_empty.result _ (c.self.inside.pending.ok.0
+    ∙ ap (λ (v : RunState). length v.pending) c.self.view_is) c.is_empty.ensures c.if-is_empty.false)
     refl (rw c.in-Some.is at c.in_ok-take_line.ensures.takes)

@@ -17,7 +17,9 @@ returns-in_ok-run_step-in-Ok-clause-takes c =
     let p = c.args.self.now in
     let read = read_as p c.self.inside.lines c.as_slice.result.now c.self.inside.pending.items c.args.back.now (Ok c.in-Ok.step)
     (ap (λ (v : RunState). v.lines) c.self.view_is) (ap (λ (v : RunState). v.pending) c.self.view_is) c.as_slice.ensures.value c.in-Ok.ensures in
-    takes_step p c.run_step.new.self c.args.size c.args.back.now c.in-Ok.step (record { whole = c.requires.whole; free = c.requires.free }) read c.in_ok-run_step-in-Ok.ensures
+    takes_step p c.run_step.new.self c.args.size c.args.back.now c.in-Ok.step
+    (record { whole = c.requires.whole; free = c.requires.free }) read c.in_ok-run_step-in-Ok.ensures
 
 pub returns-in_ok-run_step-in-Ok-clause-ready : goal.returns-in_ok-run_step-in-Ok-clause-ready
-returns-in_ok-run_step-in-Ok-clause-ready c = ready_behind c.args.self.now c.run_step.new.self c.args.size c.in-Ok.step c.requires.ready c.requires.free c.in_ok-run_step-in-Ok.ensures
+returns-in_ok-run_step-in-Ok-clause-ready c =
+    ready_behind c.args.self.now c.run_step.new.self c.args.size c.in-Ok.step c.requires.ready c.requires.free c.in_ok-run_step-in-Ok.ensures
