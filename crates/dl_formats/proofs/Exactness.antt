@@ -19,7 +19,7 @@ use Rattle.dl_formats.specs.declared.segment.SegmentMeta.{SegmentMeta}
 use Rattle.dl_formats.specs.declared.segment.SegmentMeta.TheVariants.{InProgress, Completed}
 use Rattle.dl_formats.specs.NodeBytes.{IsBetween, ledger_bytes, ten_nines, max_u64, conf_fields, IsConf, state_code, most_count, ledger_fields, IsLedgerFields, fields_of, IsLedgerMeta, segment_kind, segment_rest, segment_fields, IsSegmentMeta, maxseq_fields, IsMaxSeq, cut_fields, IsCut, alloc_fields, alloc_fields_of, IsAllocated, IsAlloc}
 use Rattle.dl_types.specs.declared.txid.TheConstants.{MAX_TXID}
-use Rattle.dl_formats.specs.Reading.{ledger_at, SpellsNone, conf_of, conf_from, state_of, state_from, ledger_of, ledger_from, in_progress_from, completed_from, kind_from, segment_from, maxseq_of, maxseq_from, cut_of, cut_from, most_allocated, alloc_of, alloc_from}
+use Rattle.dl_formats.specs.Reading.{ledger_at, SpellsNone, conf_of, conf_from, state_of, state_from, ledger_of, ledger_from, in_progress_from, completed_from, kind_from, segment_from, maxseq_of, maxseq_from, cut_of, cut_from, most_ledger, alloc_of, alloc_from}
 use Rattle.dl_formats.proofs.DecodeLemmas.{byte_exact, long_exact, node_found, node_again}
 
 -- the configuration
@@ -121,14 +121,14 @@ cut_exact = made_exact _ _ _ cut_of IsCut cut_fields
 
 -- allocated ledgers
 
-allocated_fits : (flag : ℕ) → most_allocated flag < 256 ^ 8
-allocated_fits flag = go (flag == 0)
+most_ledger_fits : (flag : ℕ) → most_ledger flag < 256 ^ 8
+most_ledger_fits flag = go (flag == 0)
   where
     go : (t : Bool) → cond t 0 ten_nines < 256 ^ 8
     go true = lit< tt
     go false = lit< tt
 
-alloc_is : (flag ledger : ℕ) → IsBetween 0 1 flag → IsBetween 0 (most_allocated flag) ledger
+alloc_is : (flag ledger : ℕ) → IsBetween 0 1 flag → IsBetween 0 (most_ledger flag) ledger
     → IsAlloc (alloc_of (flag, ledger)) × (alloc_fields (alloc_of (flag, ledger)) ≡ field w8 flag ++ field w64 ledger)
 alloc_is flag ledger f l = go (flag == 0) refl l
   where
@@ -141,13 +141,13 @@ alloc_is flag ledger f l = go (flag == 0) refl l
     go false p h = let one : 1 ≡ flag = grind (arith, nat_tests, f.most) in (h, ap (λ (n : ℕ). field w8 n ++ field w64 ledger) one)
 
 alloc_from_option : (o : Option ℕ) → IsAllocated o
-    → (x : ℕ × ℕ) × (IsBetween 0 1 x.0 × IsBetween 0 (most_allocated x.0) x.1) × (alloc_of x ≡ record { ledger = o })
+    → (x : ℕ × ℕ) × (IsBetween 0 1 x.0 × IsBetween 0 (most_ledger x.0) x.1) × (alloc_of x ≡ record { ledger = o })
 alloc_from_option None w = ((0, 0), (record { least = lit≤ tt; most = lit≤ tt }, record { least = lit≤ tt; most = lit≤ tt }), refl)
 alloc_from_option (Some ledger) w = ((1, ledger), (record { least = lit≤ tt; most = lit≤ tt }, w), refl)
 
 pub alloc_exact : Exact IsAlloc alloc_fields alloc_from
 alloc_exact = made_exact _ _ _ alloc_of IsAlloc alloc_fields
-    (then_exact _ _ _ _ _ _ (byte_exact 0 1 (lit< tt)) (λ flag v. long_exact 0 (most_allocated flag) (allocated_fits flag)))
+    (then_exact _ _ _ _ _ _ (byte_exact 0 1 (lit< tt)) (λ flag v. long_exact 0 (most_ledger flag) (most_ledger_fits flag)))
     (λ x v. alloc_is x.0 x.1 v.0 v.1) (λ a w. alloc_from_option a.ledger w)
 
 -- ledgers by their quorum

@@ -5,12 +5,12 @@ use Rattle.std.proofs.lemmas.List.{reverse-append}
 use Rattle.std.proofs.lemmas.Bool.Decides.{nat_tests}
 use Rattle.std.specs.List.{AllByRecursion}
 use Rattle.dl_types.specs.Names.{bad_from, is_letter, is_name_byte}
-use Rattle.dl_fields.specs.Paths.{is_part_byte, IsPart, joined, path_of_parts, IsPath, last_length, is_stem, IsStemField}
+use Rattle.dl_fields.specs.Paths.{is_part_byte, IsPart, with_slashes, path_of_parts, IsPath, last_length, is_stem, IsStemField}
 use Rattle.dl_fields.specs.Digits.{digits}
 use Rattle.dl_formats.specs.Keys.{Key, Conf, Streams, Ledgers, Ledger, Stream, MaxSeq, Cut, Alloc, Locks, Member, Segs, Progress, Completed, parts_of, path_of, ledger_stem, member_stem, NoSlash, IsKey, IsName, IsNodeKey}
 use Rattle.dl_formats.specs.KeyLaws.{PathsHaveTheirForm}
 use Rattle.dl_fields.proofs.DigitLemmas.{length-digits}
-use Rattle.dl_formats.proofs.KeyLemmas.{joined_more}
+use Rattle.dl_formats.proofs.KeyLemmas.{with_slashes_more}
 
 -- parts of fixed bytes, and of digits behind them
 
@@ -124,7 +124,7 @@ parts_are (Member s n) h = (streams_part, (named s h.0, (fixed (codes "lock") (l
 parts_are (Progress s n) h = (streams_part, (named s h.0, (fixed (codes "segs") (lit< tt) (lit≤ tt) refl, (numbered (codes "p") n (lit≤ tt) refl, tt))))
 parts_are (Completed s n) h = (streams_part, (named s h.0, (fixed (codes "segs") (lit< tt) (lit≤ tt) refl, (numbered (codes "c") n (lit≤ tt) refl, tt))))
 
-some_parts : (k : Key) → joined (parts_of k) ≡ path_of_parts (parts_of k)
+some_parts : (k : Key) → with_slashes (parts_of k) ≡ path_of_parts (parts_of k)
 some_parts Conf = refl
 some_parts Streams = refl
 some_parts Ledgers = refl
@@ -144,9 +144,9 @@ unfolding path_of
 path_is k h = (parts_of k, parts_are k h, some_parts k)
 
 -- parts of at most 80 bytes
-joined_few : (ps : List (List ℕ)) → AllByRecursion IsPart ps → length (joined ps) ≤ 81 * length ps
-joined_few [] h = lit≤ tt
-joined_few (p ∷ ps) h = omega (arith, h.0.few, joined_few ps h.1, length-append (47 ∷ p) (joined ps))
+with_slashes_few : (ps : List (List ℕ)) → AllByRecursion IsPart ps → length (with_slashes ps) ≤ 81 * length ps
+with_slashes_few [] h = lit≤ tt
+with_slashes_few (p ∷ ps) h = omega (arith, h.0.few, with_slashes_few ps h.1, length-append (47 ∷ p) (with_slashes ps))
 
 few_parts : (k : Key) → length (parts_of k) ≤ 4
 few_parts Conf = lit≤ tt
@@ -165,7 +165,7 @@ few_parts (Completed s n) = lit≤ tt
 
 path_fits : (k : Key) → IsNodeKey k → length (path_of k) < 65536
 unfolding path_of
-path_fits k h = omega (arith, joined_few (parts_of k) (parts_are k h), few_parts k)
+path_fits k h = omega (arith, with_slashes_few (parts_of k) (parts_are k h), few_parts k)
 
 -- stems
 
@@ -193,13 +193,13 @@ last_two front a b p q = rw (reverse-append front (47 ∷ a ∷ b ∷ [])) (rw q
 member_last : (s : List ℕ) → last_length (member_stem s) ≡ 2
 unfolding member_stem
 member_last s =
-    let more : member_stem s ≡ joined (codes "streams" ∷ s ∷ codes "lock" ∷ []) ++ 47 ∷ codes "m-" =
-    joined_more (codes "streams" ∷ s ∷ codes "lock" ∷ []) (codes "m-") in
-    ap last_length more ∙ last_two (joined (codes "streams" ∷ s ∷ codes "lock" ∷ [])) 109 45 refl refl
+    let more : member_stem s ≡ with_slashes (codes "streams" ∷ s ∷ codes "lock" ∷ []) ++ 47 ∷ codes "m-" =
+    with_slashes_more (codes "streams" ∷ s ∷ codes "lock" ∷ []) (codes "m-") in
+    ap last_length more ∙ last_two (with_slashes (codes "streams" ∷ s ∷ codes "lock" ∷ [])) 109 45 refl refl
 
 member_few : (s : List ℕ) → IsName s → length (member_stem s) ≤ 324
 unfolding member_stem
-member_few s h = joined_few (codes "streams" ∷ s ∷ codes "lock" ∷ codes "m-" ∷ []) (member_parts_are s h)
+member_few s h = with_slashes_few (codes "streams" ∷ s ∷ codes "lock" ∷ codes "m-" ∷ []) (member_parts_are s h)
 
 member_path : (s : List ℕ) → IsName s → IsPath (member_stem s)
 unfolding member_stem

@@ -6,7 +6,7 @@ use Rattle.std.specs.FinMap.{get, get-insert, get-remove}
 use Rattle.std.specs.Cmp.Lexicographic.{nat_list_cmp_total, bytes_decides, slice_cmp, texts_ties}
 use Rattle.std.specs.Ordering.{nat_cmp, eq_by_cmp}
 use Rattle.std.proofs.lemmas.Bool.Decides.{same_from_decides}
-use Rattle.dl_fields.specs.Paths.{joined}
+use Rattle.dl_fields.specs.Paths.{with_slashes}
 use Rattle.dl_fields.specs.Digits.{digits}
 use Rattle.dl_formats.specs.Keys.{Key, Conf, Streams, Ledgers, Ledger, Stream, MaxSeq, Cut, Alloc, Locks, Member, Segs, Progress, Completed, parts_of, path_of, ledger_stem, member_stem, is_key, NoSlash, IsKey, parent_key, name_of, front_of}
 use Rattle.dl_formats.specs.KeyLaws.{InsertIsByKey, RemoveIsByKey, KeysAreTold, PathsGoByParents}
@@ -18,23 +18,23 @@ NoSlashes [] = Unit {0}
 NoSlashes (p ∷ ps) = NoSlash p × NoSlashes ps
 
 -- where joined parts follow two parts without a slash, the two are the same
-same_part : (p q : List ℕ) (ps qs : List (List ℕ)) → NoSlash p → NoSlash q → p ++ joined ps ≡ q ++ joined qs → (p ≡ q) × (joined ps ≡ joined qs)
+same_part : (p q : List ℕ) (ps qs : List (List ℕ)) → NoSlash p → NoSlash q → p ++ with_slashes ps ≡ q ++ with_slashes qs → (p ≡ q) × (with_slashes ps ≡ with_slashes qs)
 same_part [] [] ps qs np nq e = (refl, e)
 same_part [] (c ∷ q) [] qs np nq e = absurd (cc)
 same_part [] (c ∷ q) (r ∷ ps) qs np nq e = let k : 47 ≡ c = cc in absurd (nq.0 (sym k))
 same_part (c ∷ p) [] ps [] np nq e = absurd (cc)
 same_part (c ∷ p) [] ps (r ∷ qs) np nq e = let k : c ≡ 47 = cc in absurd (np.0 k)
 same_part (c ∷ p) (d ∷ q) ps qs np nq e =
-    let tail : p ++ joined ps ≡ q ++ joined qs = cc in
+    let tail : p ++ with_slashes ps ≡ q ++ with_slashes qs = cc in
     let head : c ≡ d = cc in
     let r = same_part p q ps qs np.1 nq.1 tail in (cc, r.1)
 
-same_parts : (ps qs : List (List ℕ)) → NoSlashes ps → NoSlashes qs → joined ps ≡ joined qs → ps ≡ qs
+same_parts : (ps qs : List (List ℕ)) → NoSlashes ps → NoSlashes qs → with_slashes ps ≡ with_slashes qs → ps ≡ qs
 same_parts [] [] np nq e = refl
 same_parts [] (q ∷ qs) np nq e = absurd (cc)
 same_parts (p ∷ ps) [] np nq e = absurd (cc)
 same_parts (p ∷ ps) (q ∷ qs) np nq e =
-    let tail : p ++ joined ps ≡ q ++ joined qs = cc in
+    let tail : p ++ with_slashes ps ≡ q ++ with_slashes qs = cc in
     let r = same_part p q ps qs np.0 nq.0 tail in
     let rest = same_parts ps qs np.1 nq.1 r.1 in cc
 
@@ -183,38 +183,38 @@ remove_by_key t k m a b = get-remove nat_list_cmp_total t (path_of k) (path_of m
 
 -- parents
 
-pub joined_more : (ps : List (List ℕ)) (p : List ℕ) → joined (ps ++ p ∷ []) ≡ joined ps ++ 47 ∷ p
-joined_more [] p = append-nil (47 ∷ p)
-joined_more (q ∷ ps) p = ap (λ (t : List ℕ). (47 ∷ q) ++ t) (joined_more ps p) ∙ sym (append_assoc (47 ∷ q) (joined ps) (47 ∷ p))
+pub with_slashes_more : (ps : List (List ℕ)) (p : List ℕ) → with_slashes (ps ++ p ∷ []) ≡ with_slashes ps ++ 47 ∷ p
+with_slashes_more [] p = append-nil (47 ∷ p)
+with_slashes_more (q ∷ ps) p = ap (λ (t : List ℕ). (47 ∷ q) ++ t) (with_slashes_more ps p) ∙ sym (append_assoc (47 ∷ q) (with_slashes ps) (47 ∷ p))
 
 parent_is : (k : Key) → path_of k ≡ front_of (parent_key k) ++ 47 ∷ name_of k
 unfolding path_of
-parent_is Conf = joined_more [] (codes "conf")
-parent_is Streams = joined_more [] (codes "streams")
-parent_is Ledgers = joined_more [] (codes "ledgers")
-parent_is (Ledger n) = joined_more (parts_of Ledgers) (name_of (Ledger n))
-parent_is (Stream s) = joined_more (parts_of Streams) s
-parent_is (MaxSeq s) = joined_more (parts_of (Stream s)) (codes "maxseq")
-parent_is (Cut s) = joined_more (parts_of (Stream s)) (codes "cut")
-parent_is (Alloc s) = joined_more (parts_of (Stream s)) (codes "alloc")
-parent_is (Locks s) = joined_more (parts_of (Stream s)) (codes "lock")
-parent_is (Segs s) = joined_more (parts_of (Stream s)) (codes "segs")
-parent_is (Member s n) = joined_more (parts_of (Locks s)) (name_of (Member s n))
-parent_is (Progress s n) = joined_more (parts_of (Segs s)) (name_of (Progress s n))
-parent_is (Completed s n) = joined_more (parts_of (Segs s)) (name_of (Completed s n))
+parent_is Conf = with_slashes_more [] (codes "conf")
+parent_is Streams = with_slashes_more [] (codes "streams")
+parent_is Ledgers = with_slashes_more [] (codes "ledgers")
+parent_is (Ledger n) = with_slashes_more (parts_of Ledgers) (name_of (Ledger n))
+parent_is (Stream s) = with_slashes_more (parts_of Streams) s
+parent_is (MaxSeq s) = with_slashes_more (parts_of (Stream s)) (codes "maxseq")
+parent_is (Cut s) = with_slashes_more (parts_of (Stream s)) (codes "cut")
+parent_is (Alloc s) = with_slashes_more (parts_of (Stream s)) (codes "alloc")
+parent_is (Locks s) = with_slashes_more (parts_of (Stream s)) (codes "lock")
+parent_is (Segs s) = with_slashes_more (parts_of (Stream s)) (codes "segs")
+parent_is (Member s n) = with_slashes_more (parts_of (Locks s)) (name_of (Member s n))
+parent_is (Progress s n) = with_slashes_more (parts_of (Segs s)) (name_of (Progress s n))
+parent_is (Completed s n) = with_slashes_more (parts_of (Segs s)) (name_of (Completed s n))
 
 -- digits behind the last part
-joined_longer : (ps : List (List ℕ)) (p d : List ℕ) → joined (ps ++ (p ++ d) ∷ []) ≡ joined (ps ++ p ∷ []) ++ d
-joined_longer ps p d =
-    joined_more ps (p ++ d) ∙ sym (append_assoc (joined ps) (47 ∷ p) d) ∙ ap (λ (t : List ℕ). t ++ d) (sym (joined_more ps p))
+with_slashes_longer : (ps : List (List ℕ)) (p d : List ℕ) → with_slashes (ps ++ (p ++ d) ∷ []) ≡ with_slashes (ps ++ p ∷ []) ++ d
+with_slashes_longer ps p d =
+    with_slashes_more ps (p ++ d) ∙ sym (append_assoc (with_slashes ps) (47 ∷ p) d) ∙ ap (λ (t : List ℕ). t ++ d) (sym (with_slashes_more ps p))
 
 ledger_is : (n : ℕ) → path_of (Ledger n) ≡ ledger_stem ++ digits 10 n
 unfolding path_of ledger_stem
-ledger_is n = joined_longer (parts_of Ledgers) (codes "L") (digits 10 n)
+ledger_is n = with_slashes_longer (parts_of Ledgers) (codes "L") (digits 10 n)
 
 member_is : (s : List ℕ) (n : ℕ) → path_of (Member s n) ≡ member_stem s ++ digits 10 n
 unfolding path_of member_stem
-member_is s n = joined_longer (parts_of (Locks s)) (codes "m-") (digits 10 n)
+member_is s n = with_slashes_longer (parts_of (Locks s)) (codes "m-") (digits 10 n)
 
 pub by_parents : PathsGoByParents
 by_parents = record { parent = parent_is; name = name_no_slash; ledger = ledger_is; member = member_is }

@@ -30,8 +30,8 @@ abbrev pub max_u64 : ℕ
 max_u64 = 18446744073709551615
 
 -- the bytes of a node: its version, which is 1, and its fields
-abbrev pub versioned : List ℕ → List ℕ
-versioned fields = field w8 1 ++ fields
+abbrev pub with_version : List ℕ → List ℕ
+with_version fields = field w8 1 ++ fields
 
 -- the configuration: each of the four numbers is 1 to 16, and none is above the one before it
 abbrev pub conf_fields : Conf → List ℕ
@@ -39,7 +39,7 @@ conf_fields c = field w8 c.b ++ (field w8 c.e ++ (field w8 c.qw ++ field w8 c.qa
 
 -- the spelling of a configuration
 abbrev pub conf_bytes : Conf → List ℕ
-conf_bytes c = versioned (conf_fields c)
+conf_bytes c = with_version (conf_fields c)
 
 -- the configurations that have a spelling
 abbrev pub IsConf : Conf → Type 0
@@ -71,7 +71,7 @@ fields_of m = record { state = m.state; e = m.q.e; qw = m.q.qw; qa = m.q.qa; cou
 
 -- the spelling of a ledger
 abbrev pub ledger_bytes : LedgerMeta → List ℕ
-ledger_bytes m = versioned (ledger_fields (fields_of m))
+ledger_bytes m = with_version (ledger_fields (fields_of m))
 
 -- a ledger that has a spelling: its quorum keeps its own rule
 abbrev pub IsLedgerMeta : LedgerMeta → Type 0
@@ -94,7 +94,7 @@ segment_fields m = field w8 (segment_kind m) ++ segment_rest m
 
 -- the spelling of a segment
 abbrev pub segment_bytes : SegmentMeta → List ℕ
-segment_bytes m = versioned (segment_fields m)
+segment_bytes m = with_version (segment_fields m)
 
 -- the segments that have a spelling
 abbrev pub IsSegmentMeta : SegmentMeta → Type 0
@@ -108,7 +108,7 @@ maxseq_fields m = field w64 m.segment ++ field w64 m.last
 
 -- the spelling of a greatest segment
 abbrev pub maxseq_bytes : MaxSeq → List ℕ
-maxseq_bytes m = versioned (maxseq_fields m)
+maxseq_bytes m = with_version (maxseq_fields m)
 
 -- the greatest segments that have a spelling
 abbrev pub IsMaxSeq : MaxSeq → Type 0
@@ -120,7 +120,7 @@ cut_fields c = field w64 c.point.segment ++ (field w64 c.point.entry ++ field w3
 
 -- the spelling of a cut
 abbrev pub cut_bytes : Cut → List ℕ
-cut_bytes c = versioned (cut_fields c)
+cut_bytes c = with_version (cut_fields c)
 
 -- the cuts that have a spelling
 abbrev pub IsCut : Cut → Type 0
@@ -137,7 +137,7 @@ alloc_fields a = alloc_fields_of a.ledger
 
 -- the spelling of an allocation
 abbrev pub alloc_bytes : Alloc → List ℕ
-alloc_bytes a = versioned (alloc_fields a)
+alloc_bytes a = with_version (alloc_fields a)
 
 -- the ledgers that an allocation may name
 abbrev pub IsAllocated : Option ℕ → Type 0

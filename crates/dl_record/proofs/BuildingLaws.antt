@@ -12,12 +12,12 @@ use Rattle.dl_record.specs.declared.stored.Stored.TheVariants.{Plain, Control, S
 use Rattle.dl_record.specs.Stored.{txid_of, payloads_of, rows_in}
 use Rattle.dl_record.specs.Grammar.{payload_bytes, record_bytes, header_bytes, entry_bytes, IsRecord, IsAllowed, Follows, AreRecords, IsEntry}
 use Rattle.dl_record.specs.Reading.{records_at}
-use Rattle.dl_record.specs.Rows.{numbered, rows_from, row_count}
+use Rattle.dl_record.specs.Rows.{rows_of, rows_from, row_count}
 use Rattle.dl_record.specs.Building.{last_of, MayFollow, or_nothing, parts_in, IsBuilding}
 use Rattle.dl_record.proofs.Sizes.{length-record_bytes, length-entry_bytes, count_le}
 use Rattle.dl_record.proofs.Steps.{IsBytes-drop}
 use Rattle.dl_record.proofs.RecordLaws.{records_found, records_again}
-use Rattle.dl_record.proofs.WalkLaws.{length-numbered, rows_le}
+use Rattle.dl_record.proofs.WalkLaws.{length-rows_of, rows_le}
 
 was_read : (r : Result (List Stored) EntryFlaw) → is_ok r ≡ true → r ≡ Ok (or_nothing r)
 was_read (Ok parts) e = refl
@@ -30,9 +30,9 @@ flat_map-push (x ∷ xs) r =
 
 length-rows_from-push : (slot : ℕ) (xs : List Stored) (r : Stored) → length (rows_from slot (xs ++ r ∷ [])) ≡ length (rows_from slot xs) + rows_in r
 length-rows_from-push slot [] r =
-    omega (arith, length-append (numbered slot (txid_of r) (payloads_of r)) [], length-numbered slot (txid_of r) (payloads_of r))
+    omega (arith, length-append (rows_of slot (txid_of r) (payloads_of r)) [], length-rows_of slot (txid_of r) (payloads_of r))
 length-rows_from-push slot (x ∷ xs) r =
-    let front = numbered slot (txid_of x) (payloads_of x) in
+    let front = rows_of slot (txid_of x) (payloads_of x) in
     omega (
       arith,
       length-rows_from-push (slot + rows_in x) xs r,

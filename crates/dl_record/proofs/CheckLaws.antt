@@ -11,7 +11,7 @@ use Rattle.dl_record.specs.declared.kind.Behind.{Behind}
 use Rattle.dl_record.specs.declared.stored.Stored.{Stored}
 use Rattle.dl_record.specs.declared.stored.Stored.TheVariants.{Plain, Control, Set}
 use Rattle.dl_record.specs.Stored.{position_of, txid_of, rows_in}
-use Rattle.dl_record.specs.Reading.{◌>>=◌, behind, head_at, set_count_at, member_end_at, members_at, set_at, stored_at, content_at, record_at, records_at, passed, set_rows_at, content_rows_at, behind_at}
+use Rattle.dl_record.specs.Reading.{◌>>=◌, behind_of, head_at, set_count_at, member_end_at, members_at, set_at, stored_at, content_at, record_at, records_at, verdict, set_rows_at, content_rows_at, behind_at}
 use Rattle.dl_record.proofs.Steps.{bind_ok, ok_is}
 
 -- a step behind a reading fails where that one does, if it never fails itself
@@ -19,16 +19,16 @@ kept_flaw : {A B : Type 0} (read : Result A EntryFlaw) (f : A → B) (flaw : Ent
 kept_flaw (Ok x) f flaw e = absurd cc
 kept_flaw (Err other) f flaw e = cc
 
-passed_more : {A : Type 0} (x : A) (read : Result (List A) EntryFlaw) → passed (read >>= λ xs. Ok (x ∷ xs)) ≡ passed read
-passed_more x (Ok xs) = refl
-passed_more x (Err flaw) = refl
+verdict_more : {A : Type 0} (x : A) (read : Result (List A) EntryFlaw) → verdict (read >>= λ xs. Ok (x ∷ xs)) ≡ verdict read
+verdict_more x (Ok xs) = refl
+verdict_more x (Err flaw) = refl
 
 abbrev fine : Result (Unit {0}) EntryFlaw
 fine = Ok tt
 
-passed_end : {A : Type 0} (b : Bool) (flaw : EntryFlaw) (x : A) → passed (cond {A = Result A EntryFlaw} b (Ok x) (Err flaw)) ≡ cond b fine (Err flaw)
-passed_end true flaw x = refl
-passed_end false flaw x = refl
+verdict_end : {A : Type 0} (b : Bool) (flaw : EntryFlaw) (x : A) → verdict (cond {A = Result A EntryFlaw} b (Ok x) (Err flaw)) ≡ cond b fine (Err flaw)
+verdict_end true flaw x = refl
+verdict_end false flaw x = refl
 
 -- whether the bytes end at a place
 abbrev ended : ℕ → List ℕ → Result (Unit {0}) EntryFlaw
@@ -43,42 +43,42 @@ goes_on at bytes e = cond-false _ _ _ (ne_eqb at (length bytes) e)
 -- ---- members
 
 pub members_checked_on : (count i : ℕ) (bytes : List ℕ) (at end : ℕ) (total : Result (Unit {0}) EntryFlaw) → i < count → member_end_at bytes at ≡ Ok end
-    → passed (members_at (count - i) bytes at) ≡ total → passed (members_at (count - (i + 1)) bytes end) ≡ total
+    → verdict (members_at (count - i) bytes at) ≡ total → verdict (members_at (count - (i + 1)) bytes end) ≡ total
 unfolding members_at
 members_checked_on count i bytes at end total lt h so_far =
     let k : count - i ≡ suc (count - (i + 1)) = omega arith in
-    let one : passed (members_at (count - i) bytes at) ≡ passed (members_at (count - (i + 1)) bytes end) =
-    rw (k, h) (passed_more _ (members_at (count - (i + 1)) bytes end)) in
+    let one : verdict (members_at (count - i) bytes at) ≡ verdict (members_at (count - (i + 1)) bytes end) =
+    rw (k, h) (verdict_more _ (members_at (count - (i + 1)) bytes end)) in
     sym one ∙ so_far
 
 pub members_checked_stop : (count i : ℕ) (bytes : List ℕ) (at : ℕ) (flaw : EntryFlaw) (total : Result (Unit {0}) EntryFlaw) → i < count
     → member_end_at bytes at ≡ Err flaw
-    → passed (members_at (count - i) bytes at) ≡ total → total ≡ Err flaw
+    → verdict (members_at (count - i) bytes at) ≡ total → total ≡ Err flaw
 unfolding members_at
 members_checked_stop count i bytes at flaw total lt failed so_far =
     let k : count - i ≡ suc (count - (i + 1)) = omega arith in
-    let one : passed (members_at (count - i) bytes at) ≡ Err flaw = rw (k, failed) refl in
+    let one : verdict (members_at (count - i) bytes at) ≡ Err flaw = rw (k, failed) refl in
     sym so_far ∙ one
 
 members_checked : (count i : ℕ) (bytes : List ℕ) (at : ℕ) (total : Result (Unit {0}) EntryFlaw) → count ≤ i
-    → passed (members_at (count - i) bytes at) ≡ total → total ≡ ended at bytes
+    → verdict (members_at (count - i) bytes at) ≡ total → total ≡ ended at bytes
 unfolding members_at
 members_checked count i bytes at total le so_far =
     let k : count - i ≡ 0 = omega arith in
-    sym so_far ∙ ap (λ (n : ℕ). passed (members_at n bytes at)) k ∙ passed_end (eqb at (length bytes)) (Long at) []
+    sym so_far ∙ ap (λ (n : ℕ). verdict (members_at n bytes at)) k ∙ verdict_end (eqb at (length bytes)) (Long at) []
 
 pub members_checked_all : (count i : ℕ) (bytes : List ℕ) (at : ℕ) (total : Result (Unit {0}) EntryFlaw) → count ≤ i → at ≡ length bytes
-    → passed (members_at (count - i) bytes at) ≡ total → total ≡ Ok tt
+    → verdict (members_at (count - i) bytes at) ≡ total → total ≡ Ok tt
 members_checked_all count i bytes at total le e so_far = members_checked count i bytes at total le so_far ∙ ended_there at bytes e
 
 pub members_checked_long : (count i : ℕ) (bytes : List ℕ) (at : ℕ) (total : Result (Unit {0}) EntryFlaw) → count ≤ i → (at ≡ length bytes → ⊥)
-    → passed (members_at (count - i) bytes at) ≡ total → total ≡ Err (Long at)
+    → verdict (members_at (count - i) bytes at) ≡ total → total ≡ Err (Long at)
 members_checked_long count i bytes at total le e so_far = members_checked count i bytes at total le so_far ∙ goes_on at bytes e
 
 -- ---- the set
 
 abbrev counted : ℕ → Result (List (List ℕ)) EntryFlaw → Result ℕ EntryFlaw
-counted n read = passed read >>= λ _. Ok n
+counted n read = verdict read >>= λ _. Ok n
 
 members_counted : (n : ℕ) (bytes : List ℕ) (at : ℕ) → (members_at n bytes at >>= λ payloads. Ok (length payloads)) ≡ counted n (members_at n bytes at)
 unfolding members_at
@@ -116,7 +116,7 @@ pub set_has_no_count : (bytes : List ℕ) (at : ℕ) (flaw : EntryFlaw) → set_
 set_has_no_count bytes at flaw h = set_checked bytes at ∙ ap (λ (r : Result ℕ EntryFlaw). r >>= λ count. counted count (members_at count bytes (at + 4))) h
 
 pub set_members : (bytes : List ℕ) (at count : ℕ) (read : Result (Unit {0}) EntryFlaw) → set_count_at bytes at ≡ Ok count
-    → passed (members_at count bytes (at + 4)) ≡ read → set_rows_at bytes at ≡ (read >>= λ _. Ok count)
+    → verdict (members_at count bytes (at + 4)) ≡ read → set_rows_at bytes at ≡ (read >>= λ _. Ok count)
 set_members bytes at count read h e =
     set_checked bytes at ∙ ap (λ (r : Result ℕ EntryFlaw). r >>= λ count. counted count (members_at count bytes (at + 4))) h
     ∙ ap (λ (r : Result (Unit {0}) EntryFlaw). r >>= λ _. Ok count) e
@@ -155,7 +155,7 @@ asks position txid = record { position = position; txid = txid }
 
 record_read : (alone : Bool) (before : Option Behind) (bytes : List ℕ) (at : ℕ) (head : Head) (r : Stored) → head_at alone before bytes at ≡ Ok head
     → content_at head bytes (at + 20) ≡ Ok r
-    → behind_at alone before bytes at ≡ Ok (behind r, head.end)
+    → behind_at alone before bytes at ≡ Ok (behind_of r, head.end)
 unfolding record_at
 record_read alone before bytes at head r h c = rw (h, c) refl
 
@@ -171,7 +171,7 @@ pub record_checked : (alone : Bool) (before : Option Behind) (bytes : List ℕ) 
 record_checked alone before bytes at rows position txid head h e counts t =
     let u = bind_ok (content_at head bytes (at + 20)) (λ stored. Ok (rows_in stored)) rows e in
     let is = content_is head.kind head.position head.txid bytes (at + 20) head.end u.0 u.1 in
-    let same : behind u.0 ≡ asks position txid =
+    let same : behind_of u.0 ≡ asks position txid =
     ap₂ (λ (p t : ℕ). asks p t) (ap₂ (λ (p n : ℕ). p + n) is.position (ok_is (rows_in u.0) rows u.2) ∙ sym counts) (is.txid ∙ sym t) in
     record_read alone before bytes at head u.0 h u.1 ∙ ap (λ (b : Behind). Ok (b, head.end)) same
 
@@ -188,12 +188,12 @@ record_has_no_head alone before bytes at flaw h = rw h refl
 -- ---- the records
 
 records_more : (n : ℕ) (alone : Bool) (before : Option Behind) (bytes : List ℕ) (at : ℕ) (x : Stored × ℕ) → record_at alone before bytes at ≡ Ok x
-    → passed (records_at (suc n) alone before bytes at) ≡ passed (records_at n alone (Some (behind x.0)) bytes x.1)
+    → verdict (records_at (suc n) alone before bytes at) ≡ verdict (records_at n alone (Some (behind_of x.0)) bytes x.1)
 unfolding records_at
-records_more n alone before bytes at x h = rw h (passed_more x.0 (records_at n alone (Some (behind x.0)) bytes x.1))
+records_more n alone before bytes at x h = rw h (verdict_more x.0 (records_at n alone (Some (behind_of x.0)) bytes x.1))
 
 records_fail : (n : ℕ) (alone : Bool) (before : Option Behind) (bytes : List ℕ) (at : ℕ) (flaw : EntryFlaw)
-    → record_at alone before bytes at ≡ Err flaw → passed (records_at (suc n) alone before bytes at) ≡ Err flaw
+    → record_at alone before bytes at ≡ Err flaw → verdict (records_at (suc n) alone before bytes at) ≡ Err flaw
 unfolding records_at
 records_fail n alone before bytes at flaw h = rw h refl
 
@@ -202,36 +202,36 @@ next_count count i lt = omega arith
 
 pub records_checked_on : (count i : ℕ) (alone : Bool) (before : Option Behind) (bytes : List ℕ) (at : ℕ) (x : Behind × ℕ)
     (total : Result (Unit {0}) EntryFlaw) → i < count
-    → behind_at alone before bytes at ≡ Ok x → passed (records_at (count - i) alone before bytes at) ≡ total
-    → passed (records_at (count - (i + 1)) alone (Some x.0) bytes x.1) ≡ total
+    → behind_at alone before bytes at ≡ Ok x → verdict (records_at (count - i) alone before bytes at) ≡ total
+    → verdict (records_at (count - (i + 1)) alone (Some x.0) bytes x.1) ≡ total
 records_checked_on count i alone before bytes at x total lt h so_far =
-    let u = bind_ok (record_at alone before bytes at) (λ first. Ok (behind first.0, first.1)) x h in
-    ap (λ (y : Behind × ℕ). passed (records_at (count - (i + 1)) alone (Some y.0) bytes y.1)) (sym (ok_is (behind u.0.0, u.0.1) x u.2))
+    let u = bind_ok (record_at alone before bytes at) (λ first. Ok (behind_of first.0, first.1)) x h in
+    ap (λ (y : Behind × ℕ). verdict (records_at (count - (i + 1)) alone (Some y.0) bytes y.1)) (sym (ok_is (behind_of u.0.0, u.0.1) x u.2))
     ∙ sym (records_more (count - (i + 1)) alone before bytes at u.0 u.1)
-    ∙ ap (λ (n : ℕ). passed (records_at n alone before bytes at)) (sym (next_count count i lt))
+    ∙ ap (λ (n : ℕ). verdict (records_at n alone before bytes at)) (sym (next_count count i lt))
     ∙ so_far
 
 pub records_checked_stop : (count i : ℕ) (alone : Bool) (before : Option Behind) (bytes : List ℕ) (at : ℕ) (flaw : EntryFlaw)
     (total : Result (Unit {0}) EntryFlaw) → i < count
-    → behind_at alone before bytes at ≡ Err flaw → passed (records_at (count - i) alone before bytes at) ≡ total → total ≡ Err flaw
+    → behind_at alone before bytes at ≡ Err flaw → verdict (records_at (count - i) alone before bytes at) ≡ total → total ≡ Err flaw
 records_checked_stop count i alone before bytes at flaw total lt h so_far =
     sym so_far
-    ∙ ap (λ (n : ℕ). passed (records_at n alone before bytes at)) (next_count count i lt)
-    ∙ records_fail (count - (i + 1)) alone before bytes at flaw (kept_flaw (record_at alone before bytes at) (λ first. (behind first.0, first.1)) flaw h)
+    ∙ ap (λ (n : ℕ). verdict (records_at n alone before bytes at)) (next_count count i lt)
+    ∙ records_fail (count - (i + 1)) alone before bytes at flaw (kept_flaw (record_at alone before bytes at) (λ first. (behind_of first.0, first.1)) flaw h)
 
 records_checked : (count i : ℕ) (alone : Bool) (before : Option Behind) (bytes : List ℕ) (at : ℕ) (total : Result (Unit {0}) EntryFlaw) → count ≤ i
-    → passed (records_at (count - i) alone before bytes at) ≡ total → total ≡ ended at bytes
+    → verdict (records_at (count - i) alone before bytes at) ≡ total → total ≡ ended at bytes
 unfolding records_at
 records_checked count i alone before bytes at total le so_far =
     let k : count - i ≡ 0 = omega arith in
-    sym so_far ∙ ap (λ (n : ℕ). passed (records_at n alone before bytes at)) k ∙ passed_end (eqb at (length bytes)) (Long at) []
+    sym so_far ∙ ap (λ (n : ℕ). verdict (records_at n alone before bytes at)) k ∙ verdict_end (eqb at (length bytes)) (Long at) []
 
 pub records_checked_all : (count i : ℕ) (alone : Bool) (before : Option Behind) (bytes : List ℕ) (at : ℕ) (total : Result (Unit {0}) EntryFlaw)
     → count ≤ i → at ≡ length bytes
-    → passed (records_at (count - i) alone before bytes at) ≡ total → total ≡ Ok tt
+    → verdict (records_at (count - i) alone before bytes at) ≡ total → total ≡ Ok tt
 records_checked_all count i alone before bytes at total le e so_far = records_checked count i alone before bytes at total le so_far ∙ ended_there at bytes e
 
 pub records_checked_long : (count i : ℕ) (alone : Bool) (before : Option Behind) (bytes : List ℕ) (at : ℕ) (total : Result (Unit {0}) EntryFlaw)
     → count ≤ i → (at ≡ length bytes → ⊥)
-    → passed (records_at (count - i) alone before bytes at) ≡ total → total ≡ Err (Long at)
+    → verdict (records_at (count - i) alone before bytes at) ≡ total → total ≡ Err (Long at)
 records_checked_long count i alone before bytes at total le e so_far = records_checked count i alone before bytes at total le so_far ∙ goes_on at bytes e

@@ -14,9 +14,9 @@ use Rattle.dl_record.specs.Flaws.{flaw_of}
 use Rattle.dl_record.specs.declared.entry_flaw.EntryFlaw.TheVariants.{BadFlags, Compressed, Short, TooLong, BadCount, Long}
 use Rattle.dl_record.specs.declared.stored.Stored.{Stored}
 use Rattle.dl_record.specs.Grammar.{header_bytes, record_bytes, entry_bytes, AreRecords, IsEntry, IsEntryBytes}
-use Rattle.dl_record.specs.Reading.{◌>>=◌, allowed, field_at, version_at, codec_at, count_at, size_at, header_at, records_at, entry_at, Gives, Refuses, IsFlaw, passed}
+use Rattle.dl_record.specs.Reading.{◌>>=◌, value_if, field_at, version_at, codec_at, count_at, size_at, header_at, records_at, entry_at, Gives, Refuses, IsFlaw, verdict}
 use Rattle.dl_record.proofs.Sizes.{length-header_bytes, length-entry_bytes, count_fits}
-use Rattle.dl_record.proofs.Steps.{bind_ok, ok_is, chosen, allowed_ok, checked_ok, field_found, field_again}
+use Rattle.dl_record.proofs.Steps.{bind_ok, ok_is, chosen, value_if_ok, checked_ok, field_found, field_again}
 use Rattle.dl_record.proofs.RecordLaws.{records_found, records_again}
 
 pub header_bytes-append : (count size : ℕ) (rest : List ℕ)
@@ -42,9 +42,9 @@ header_found bytes count fits e =
     let b' = checked_ok (field_at w8 bytes 1) (λ n. eqb n 0) (Compressed 1) b.0 b.1 in
     let d' = checked_ok (field_at w16 bytes 2) (λ n. not (eqb n 0)) (BadCount 2) d.0 d.1 in
     let f' = bind_ok (field_at w32 bytes 4)
-    (λ n. cond (ltb (length bytes) (4 + 4 + n)) (Err (Short 4)) (allowed (leb (length bytes) (4 + 4 + n)) (Long (4 + 4 + n)) n)) f.0 f.1 in
-    let f'' = chosen (ltb (length bytes) (4 + 4 + f'.0)) (Short 4) (allowed (leb (length bytes) (4 + 4 + f'.0)) (Long (4 + 4 + f'.0)) f'.0) f.0 f'.2 in
-    let f3 = allowed_ok (leb (length bytes) (4 + 4 + f'.0)) (Long (4 + 4 + f'.0)) f'.0 f.0 f''.1 in
+    (λ n. cond (ltb (length bytes) (4 + 4 + n)) (Err (Short 4)) (value_if (leb (length bytes) (4 + 4 + n)) (Long (4 + 4 + n)) n)) f.0 f.1 in
+    let f'' = chosen (ltb (length bytes) (4 + 4 + f'.0)) (Short 4) (value_if (leb (length bytes) (4 + 4 + f'.0)) (Long (4 + 4 + f'.0)) f'.0) f.0 f'.2 in
+    let f3 = value_if_ok (leb (length bytes) (4 + 4 + f'.0)) (Long (4 + 4 + f'.0)) f'.0 f.0 f''.1 in
     let pa = field_found w8 width_8 bytes 0 1 a.0 fits refl a'.0 in
     let pb = field_found w8 width_8 bytes 1 2 b.0 fits refl b'.0 in
     let pd = field_found w16 width_16 bytes 2 4 d.0 fits refl d'.0 in
@@ -140,24 +140,24 @@ is_refused bytes (Err fault) given = go (flaw_of fault) given
 
 -- ---- what a check of the bytes says
 
-pub is_valid : (bytes : List ℕ) (r : Result (Unit {0}) EntryFlaw) → IsBytes bytes → passed (entry_at bytes) ≡ r → IsOk r ↔ IsEntryBytes bytes
+pub is_valid : (bytes : List ℕ) (r : Result (Unit {0}) EntryFlaw) → IsBytes bytes → verdict (entry_at bytes) ≡ r → IsOk r ↔ IsEntryBytes bytes
 is_valid bytes r fits given = (
   λ ok. found (entry_at bytes) refl (subst (λ (x : Result (Unit {0}) EntryFlaw). IsOk x) (sym given) ok),
   λ spelt. subst
       (λ (x : Result (Unit {0}) EntryFlaw). IsOk x) (sym (again spelt) ∙ given) refl,
 )
   where
-    found : (read : Result (List Stored) EntryFlaw) → entry_at bytes ≡ read → IsOk (passed read) → IsEntryBytes bytes
+    found : (read : Result (List Stored) EntryFlaw) → entry_at bytes ≡ read → IsOk (verdict read) → IsEntryBytes bytes
     found (Ok parts) e ok = let f = entry_found bytes parts fits e in (parts, f.is, f.spelt)
     found (Err flaw) e ok = absurd cc
 
-    again : (spelt : IsEntryBytes bytes) → passed (entry_at bytes) ≡ Ok tt
-    again spelt = ap passed (ap entry_at spelt.2 ∙ entry_again spelt.0 spelt.1)
+    again : (spelt : IsEntryBytes bytes) → verdict (entry_at bytes) ≡ Ok tt
+    again spelt = ap verdict (ap entry_at spelt.2 ∙ entry_again spelt.0 spelt.1)
 
-pub is_flaw : (bytes : List ℕ) (r : Result (Unit {0}) EntryFlaw) → passed (entry_at bytes) ≡ r → IfErr r (IsFlaw bytes)
+pub is_flaw : (bytes : List ℕ) (r : Result (Unit {0}) EntryFlaw) → verdict (entry_at bytes) ≡ r → IfErr r (IsFlaw bytes)
 is_flaw bytes (Ok done) given = tt
 is_flaw bytes (Err flaw) given = refuses bytes flaw (failed (entry_at bytes) given)
   where
-    failed : (read : Result (List Stored) EntryFlaw) → passed read ≡ Err flaw → read ≡ Err flaw
+    failed : (read : Result (List Stored) EntryFlaw) → verdict read ≡ Err flaw → read ≡ Err flaw
     failed (Ok parts) e = absurd cc
     failed (Err other) e = cc

@@ -14,8 +14,8 @@ use Rattle.dl_record.specs.declared.kind.Kind.{Kind}
 use Rattle.dl_record.specs.declared.kind.Kind.TheVariants as kinds
 use Rattle.dl_record.specs.declared.kind.Head.{Head}
 use Rattle.dl_record.specs.declared.kind.Behind.{Behind}
-use Rattle.dl_record.specs.Reading.{◌>>=◌, allowed, field_at, end_at, may_stand, may_bear, kind_of, may_hold, position_at, kind_at, txid_at, length_at, head_at}
-use Rattle.dl_record.proofs.Steps.{bind_ok, ok_is, chosen, allowed_ok, checked_ok, field_found, field_again, end_found, end_again}
+use Rattle.dl_record.specs.Reading.{◌>>=◌, value_if, field_at, end_at, may_stand, may_bear, kind_of, may_hold, position_at, kind_at, txid_at, length_at, head_at}
+use Rattle.dl_record.proofs.Steps.{bind_ok, ok_is, chosen, value_if_ok, checked_ok, field_found, field_again, end_found, end_again}
 
 -- the flags of a kind
 abbrev pub kind_flags : Kind → ℕ
@@ -100,13 +100,13 @@ head_found alone before bytes at head fits e =
     let b' = bind_ok (field_at w32 bytes (at + 4)) (λ n. kind_of alone (at + 4) n) b.0 b.1 in
     let b'' = kind_found alone (at + 4) b'.0 b.0 b'.2 in
     let d' = bind_ok (field_at w64 bytes (at + 8))
-    (λ n. cond (ltb MAX_TXID n) (Err (BadFlags (at + 8))) (allowed (may_bear before n) (TxidBack (at + 8)) n)) d.0 d.1 in
-    let d'' = chosen (ltb MAX_TXID d'.0) (BadFlags (at + 8)) (allowed (may_bear before d'.0) (TxidBack (at + 8)) d'.0) d.0 d'.2 in
-    let d3 = allowed_ok (may_bear before d'.0) (TxidBack (at + 8)) d'.0 d.0 d''.1 in
+    (λ n. cond (ltb MAX_TXID n) (Err (BadFlags (at + 8))) (value_if (may_bear before n) (TxidBack (at + 8)) n)) d.0 d.1 in
+    let d'' = chosen (ltb MAX_TXID d'.0) (BadFlags (at + 8)) (value_if (may_bear before d'.0) (TxidBack (at + 8)) d'.0) d.0 d'.2 in
+    let d3 = value_if_ok (may_bear before d'.0) (TxidBack (at + 8)) d'.0 d.0 d''.1 in
     let f' = bind_ok (field_at w32 bytes (at + 16))
-    (λ n. cond (ltb PAYLOAD_MAX n) (Err (TooLong (at + 16))) (allowed (may_hold b.0 n) (BadCount (at + 16)) n)) f.0 f.1 in
-    let f'' = chosen (ltb PAYLOAD_MAX f'.0) (TooLong (at + 16)) (allowed (may_hold b.0 f'.0) (BadCount (at + 16)) f'.0) f.0 f'.2 in
-    let f3 = allowed_ok (may_hold b.0 f'.0) (BadCount (at + 16)) f'.0 f.0 f''.1 in
+    (λ n. cond (ltb PAYLOAD_MAX n) (Err (TooLong (at + 16))) (value_if (may_hold b.0 n) (BadCount (at + 16)) n)) f.0 f.1 in
+    let f'' = chosen (ltb PAYLOAD_MAX f'.0) (TooLong (at + 16)) (value_if (may_hold b.0 f'.0) (BadCount (at + 16)) f'.0) f.0 f'.2 in
+    let f3 = value_if_ok (may_hold b.0 f'.0) (BadCount (at + 16)) f'.0 f.0 f''.1 in
     let pa = field_found w32 width_32 bytes at (at + 4) a.0 fits refl a'.0 in
     let pb = field_found w32 width_32 bytes (at + 4) (at + 8) b'.0 fits (omega arith) b'.1 in
     let pd = field_found w64 width_64 bytes (at + 8) (at + 16) d'.0 fits (omega arith) d'.1 in

@@ -9,7 +9,7 @@ use Rattle.dl_record.specs.declared.kind.Behind.{Behind}
 use Rattle.dl_record.specs.Flaws.{flaw_of}
 use Rattle.dl_record.specs.declared.entry_flaw.EntryFlaw.TheVariants.{Long}
 use Rattle.dl_record.specs.declared.stored.Stored.{Stored}
-use Rattle.dl_record.specs.Reading.{◌>>=◌, FaultBy, behind, member_end_at, members_at, record_at, records_at}
+use Rattle.dl_record.specs.Reading.{◌>>=◌, FaultBy, behind_of, member_end_at, members_at, record_at, records_at}
 
 -- what was read before, and what is still read
 abbrev pub with_front : {A : Type 0} → List A → Result (List A) EntryFlaw → Result (List A) EntryFlaw
@@ -81,11 +81,11 @@ members_too_long front count i bytes at total le goes_on so_far =
 pub records_go_on : (front : List Stored) (count i : ℕ) (alone : Bool) (before : Option Behind) (bytes : List ℕ) (at end : ℕ) (r : Stored)
     (total : Result (List Stored) EntryFlaw) → i < count
     → record_at alone before bytes at ≡ Ok (r, end) → with_front front (records_at (count - i) alone before bytes at) ≡ total
-    → with_front (front ++ r ∷ []) (records_at (count - (i + 1)) alone (Some (behind r)) bytes end) ≡ total
+    → with_front (front ++ r ∷ []) (records_at (count - (i + 1)) alone (Some (behind_of r)) bytes end) ≡ total
 unfolding records_at
 records_go_on front count i alone before bytes at end r total lt h so_far =
     let k : count - i ≡ suc (count - (i + 1)) = omega arith in
-    let rest = records_at (count - (i + 1)) alone (Some (behind r)) bytes end in
+    let rest = records_at (count - (i + 1)) alone (Some (behind_of r)) bytes end in
     let one : with_front front (records_at (count - i) alone before bytes at) ≡ with_front (front ++ r ∷ []) rest = rw (k, h) (regroup front r rest) in
     sym one ∙ so_far
 

@@ -16,7 +16,7 @@ use Rattle.dl_record.specs.declared.stored.Stored.{Stored}
 use Rattle.dl_record.specs.declared.stored.Stored.TheVariants.{Plain, Control, Set}
 use Rattle.dl_record.specs.Stored.{position_of, txid_of}
 use Rattle.dl_record.specs.Grammar.{payload_bytes, flags_of, fields_and_payload, record_bytes, IsMembers, IsRecord, IsAllowed, Follows, AreRecords}
-use Rattle.dl_record.specs.Reading.{◌>>=◌, behind, may_stand, may_bear, may_hold, head_at, set_at, stored_at, content_at, record_at, records_at}
+use Rattle.dl_record.specs.Reading.{◌>>=◌, behind_of, may_stand, may_bear, may_hold, head_at, set_at, stored_at, content_at, record_at, records_at}
 use Rattle.dl_record.proofs.Steps.{IsBytes-take, bind_ok, ok_is, part_found, part_again}
 use Rattle.dl_record.proofs.Members.{set_found, set_again, ends_there}
 use Rattle.dl_record.proofs.Heads.{kind_flags, FitsKind, head_found, head_again}
@@ -82,7 +82,7 @@ kind_holds (Set position txid payloads) = refl
 -- what the record before asks of the next one, as a reader keeps it
 abbrev pub behind_all : Option Stored → Option Behind
 behind_all None = None
-behind_all (Some r) = Some (behind r)
+behind_all (Some r) = Some (behind_of r)
 
 follows_found : (before : Option Stored) (r : Stored) → may_stand (behind_all before) (position_of r) ≡ true
     → may_bear (behind_all before) (txid_of r) ≡ true → Follows before r
@@ -186,8 +186,8 @@ records_found zero alone before bytes at rs fits e =
     subst (RecordsFound zero alone before bytes at) g.1 (record { are = tt; stands = drop_all at bytes (omega (arith, g.0)); count = refl })
 records_found (suc n) alone before bytes at rs fits e =
     let u = bind_ok (record_at alone (behind_all before) bytes at)
-    (λ first. records_at n alone (Some (behind first.0)) bytes first.1 >>= λ others. Ok (first.0 ∷ others)) rs e in
-    let v = bind_ok (records_at n alone (Some (behind u.0.0)) bytes u.0.1) (λ others. Ok (u.0.0 ∷ others)) rs u.2 in
+    (λ first. records_at n alone (Some (behind_of first.0)) bytes first.1 >>= λ others. Ok (first.0 ∷ others)) rs e in
+    let v = bind_ok (records_at n alone (Some (behind_of u.0.0)) bytes u.0.1) (λ others. Ok (u.0.0 ∷ others)) rs u.2 in
     let one = record_found alone before bytes at u.0 fits u.1 in
     let more = records_found n alone (Some u.0.0) bytes u.0.1 v.0 fits v.1 in
     subst (RecordsFound (suc n) alone before bytes at) (ok_is (u.0.0 ∷ v.0) rs v.2) (record {

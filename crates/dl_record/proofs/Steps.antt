@@ -9,7 +9,7 @@ pub use Rattle.dl_reading.proofs.ReadingLemmas.{bind_ok, ok_is}
 use Rattle.dl_codec.specs.Fields.{field, number_of, number_at, short_at, IsBytes}
 use Rattle.dl_codec.specs.Laws.{HasOneSpelling}
 use Rattle.dl_record.specs.declared.entry_flaw.EntryFlaw.{EntryFlaw}
-use Rattle.dl_record.specs.Reading.{◌>>=◌, or_short, field_at, allowed, end_at}
+use Rattle.dl_record.specs.Reading.{◌>>=◌, or_short, field_at, value_if, end_at}
 
 pub IsBytes-drop : (n : ℕ) (bytes : List ℕ) → IsBytes bytes → IsBytes (drop n bytes)
 IsBytes-drop n bytes h i = rw get_or-drop (h (n + i))
@@ -31,16 +31,16 @@ pub chosen : {A : Type 0} (b : Bool) (fault : EntryFlaw) (r : Result A EntryFlaw
 chosen true fault r y e = absurd cc
 chosen false fault r y e = (refl, e)
 
-pub allowed_ok : (b : Bool) (fault : EntryFlaw) (n m : ℕ) → allowed b fault n ≡ Ok m → (b ≡ true) × (n ≡ m)
-allowed_ok true fault n m e = (refl, cc)
-allowed_ok false fault n m e = absurd cc
+pub value_if_ok : (b : Bool) (fault : EntryFlaw) (n m : ℕ) → value_if b fault n ≡ Ok m → (b ≡ true) × (n ≡ m)
+value_if_ok true fault n m e = (refl, cc)
+value_if_ok false fault n m e = absurd cc
 
 -- a number that passed its test
-pub checked_ok : (read : Result ℕ EntryFlaw) (p : ℕ → Bool) (fault : EntryFlaw) (m : ℕ) → (read >>= λ n. allowed (p n) fault n) ≡ Ok m
+pub checked_ok : (read : Result ℕ EntryFlaw) (p : ℕ → Bool) (fault : EntryFlaw) (m : ℕ) → (read >>= λ n. value_if (p n) fault n) ≡ Ok m
     → (read ≡ Ok m) × (p m ≡ true)
 checked_ok read p fault m e =
-    let u = bind_ok read (λ n. allowed (p n) fault n) m e in
-    let v = allowed_ok (p u.0) fault u.0 m u.2 in
+    let u = bind_ok read (λ n. value_if (p n) fault n) m e in
+    let v = value_if_ok (p u.0) fault u.0 m u.2 in
     (u.1 ∙ ap (λ (n : ℕ). done n) v.1, ap p (sym v.1) ∙ v.0)
 
 -- ---- fields
@@ -134,7 +134,7 @@ part_again bytes at end text rest place e = record {
 pub end_found : (bytes : List ℕ) (at size end : ℕ) → end_at bytes at size ≡ Ok end → (end ≡ at + size) × (end ≤ length bytes)
 unfolding end_at
 end_found bytes at size end e =
-    let g = allowed_ok (leb (at + size) (length bytes)) _ (at + size) end e in
+    let g = value_if_ok (leb (at + size) (length bytes)) _ (at + size) end e in
     (sym g.1, omega (arith, leb-true (at + size) (length bytes) g.0))
 
 pub end_again : (bytes : List ℕ) (at size : ℕ) → at + size ≤ length bytes → end_at bytes at size ≡ Ok (at + size)

@@ -17,7 +17,7 @@ use Rattle.dl_record.specs.Stored.{position_of, txid_of, payloads_of, rows_in}
 use Rattle.dl_record.specs.Grammar.{member_bytes, set_bytes, payload_bytes, flags_of, record_bytes, entry_bytes, IsMembers, IsAllowed, AreRecords, IsEntry}
 use Rattle.dl_record.specs.Reading.{field_at, members_count_at}
 use Rattle.dl_record.specs.UserRows.{RowOf}
-use Rattle.dl_record.specs.Rows.{numbered, rows_from, user_rows, members_walk, kind_walk, records_walk}
+use Rattle.dl_record.specs.Rows.{rows_of, rows_from, user_rows, members_walk, kind_walk, records_walk}
 use Rattle.dl_record.proofs.MemberSizes.{length-member_bytes, length-set_bytes}
 use Rattle.dl_record.proofs.Sizes.{length-record_bytes, length-entry_bytes, count_fits}
 use Rattle.dl_record.proofs.Steps.{field_again, part_again}
@@ -28,9 +28,9 @@ use Rattle.dl_record.proofs.Entries.{header_bytes-append}
 
 -- ---- how many rows there are
 
-pub length-numbered : (slot txid : ℕ) (ps : List (List ℕ)) → length (numbered slot txid ps) ≡ length ps
-length-numbered slot txid [] = refl
-length-numbered slot txid (p ∷ ps) = ap suc (length-numbered (slot + 1) txid ps)
+pub length-rows_of : (slot txid : ℕ) (ps : List (List ℕ)) → length (rows_of slot txid ps) ≡ length ps
+length-rows_of slot txid [] = refl
+length-rows_of slot txid (p ∷ ps) = ap suc (length-rows_of (slot + 1) txid ps)
 
 members_le : (ps : List (List ℕ)) → length ps ≤ length (flat_map member_bytes ps)
 members_le [] = omega arith
@@ -51,15 +51,15 @@ rows_le slot (r ∷ rs) =
       rows_in_le r,
       length-append (record_bytes r) (flat_map record_bytes rs),
       length-append
-          (numbered slot (txid_of r) (payloads_of r)) (rows_from (slot + rows_in r) rs),
-      length-numbered slot (txid_of r) (payloads_of r),
+          (rows_of slot (txid_of r) (payloads_of r)) (rows_from (slot + rows_in r) rs),
+      length-rows_of slot (txid_of r) (payloads_of r),
     )
 
 -- ---- members
 
 members_walk_again : (ps : List (List ℕ)) (slot txid : ℕ) (bytes : List ℕ) (at : ℕ) (others : List RowOf) (more : List ℕ)
     → length (flat_map member_bytes ps) < 2 ^ 32 → drop at bytes ≡ flat_map member_bytes ps ++ more
-    → members_walk (length ps) slot txid bytes at others ≡ numbered slot txid ps ++ others
+    → members_walk (length ps) slot txid bytes at others ≡ rows_of slot txid ps ++ others
 unfolding members_walk
 members_walk_again [] slot txid bytes at others more fits e = refl
 members_walk_again (p ∷ ps) slot txid bytes at others more fits e =
@@ -97,7 +97,7 @@ NoneBehind (Set position txid payloads) rows = Unit {0}
 kind_walk_again : (r : Stored) (slot : ℕ) (bytes : List ℕ) (at end : ℕ) (others : ℕ → List RowOf) (rest : List ℕ) → IsMembers r
     → length (payload_bytes r) ≤ PAYLOAD_MAX → end ≡ at + length (payload_bytes r)
     → drop at bytes ≡ payload_bytes r ++ rest → NoneBehind r (others (slot + rows_in r))
-    → kind_walk (kind_in r) slot (txid_of r) bytes at end others ≡ numbered slot (txid_of r) (payloads_of r) ++ others (slot + rows_in r)
+    → kind_walk (kind_in r) slot (txid_of r) bytes at end others ≡ rows_of slot (txid_of r) (payloads_of r) ++ others (slot + rows_in r)
 kind_walk_again (Plain position txid payload) slot bytes at end others rest members short place e none =
     let p = part_again bytes at end payload rest place e in
     rw (p.reads) refl
@@ -144,7 +144,7 @@ records_walk_again (r ∷ rs) alone before slot bytes at are one e =
     subst (λ (l : List RowOf). NoneBehind r l) (sym (more (slot + rows_in r))) (none_behind r rs alone (slot + rows_in r) are.1.0 one) in
     let k = kind_walk_again r slot bytes (at + 20) (at + 20 + size)
     (λ next. records_walk (length rs) next bytes (at + 20 + size)) rest is.members is.payload refl h.behind none in
-    rw (h.reads) (k ∙ ap (λ (l : List RowOf). numbered slot (txid_of r) (payloads_of r) ++ l) (more (slot + rows_in r)))
+    rw (h.reads) (k ∙ ap (λ (l : List RowOf). rows_of slot (txid_of r) (payloads_of r) ++ l) (more (slot + rows_in r)))
 
 -- ---- the entry
 

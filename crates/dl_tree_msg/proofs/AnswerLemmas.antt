@@ -3,7 +3,7 @@ use Rattle.std.proofs.Common.{◌≡◌, ℕ, List, length, refl, ap}
 use Rattle.std.specs.List.{AllByRecursion}
 use Rattle.std.specs.Int.{w16, w32, w64}
 use Rattle.dl_fields.specs.Readers.{Exact}
-use Rattle.dl_fields.specs.Fields.{number_from, Fits, counted, IsCounted}
+use Rattle.dl_fields.specs.Fields.{number_from, Fits, counted_field, IsCounted}
 use Rattle.dl_fields.specs.Lists.{list_bytes}
 use Rattle.dl_fields.specs.Paths.{IsPart, IsPathField, name_from}
 use Rattle.dl_fields.proofs.ReaderLemmas.{made_exact}
@@ -77,8 +77,8 @@ abbrev IsAnswerOf : AnswerKind → OneAnswer → Type 0
 IsAnswerOf k a = IsAnswer a × (answer_kind a ≡ k)
 
 -- names behind their count are read exactly
-names_exact : Exact (λ names. Fits w32 (length names) × AllByRecursion IsPart names) (list_bytes w32 (counted w16)) names_from
-names_exact = list_exact IsPart (counted w16) name_from name_exact (Fits w32) w32 (number_from w32) u32_exact
+names_exact : Exact (λ names. Fits w32 (length names) × AllByRecursion IsPart names) (list_bytes w32 (counted_field w16)) names_from
+names_exact = list_exact IsPart (counted_field w16) name_from name_exact (Fits w32) w32 (number_from w32) u32_exact
 
 -- what stands behind a kind of answer is read exactly
 answer_rest_exact : (k : AnswerKind) → Exact (IsAnswerOf k) answer_rest (answer_rest_from k)

@@ -2,7 +2,7 @@ ghost use Rattle.std.specs.Prelude.{◌≡◌, ◌≤◌, ◌<◌, ◌*◌, ◌+
 ghost use Rattle.std.specs.List.{flat_map};
 ghost use Rattle.std.specs.Int.{w16, w32};
 ghost use Rattle.dl_fields.specs.Readers.{Gives, Reads};
-ghost use Rattle.dl_fields.specs.Fields.{counted, IsCounted};
+ghost use Rattle.dl_fields.specs.Fields.{counted_field, IsCounted};
 ghost use Rattle.dl_fields.specs.Outputs.{Puts};
 ghost use Rattle.dl_fields.specs.Paths.{IsPart, name_from};
 ghost use Rattle.dl_tree_msg.specs.Answers.{why_rest, why_bytes, IsWhy, answer_rest, answer_bytes, IsAnswer, outcome_rest, outcome_bytes, IsOutcome};
@@ -209,7 +209,7 @@ fn put_why(alloc: Global, out: &mut Vec<u8>, why: &Why) -> Result<(), NoMemory>
 /// Adds names without their count.
 fn put_name_items(alloc: Global, out: &mut Vec<u8>, names: &[Path]) -> Result<(), NoMemory>
     requires { All (IsCounted w16) names.now }
-    ensures { OnOk result (out.new.items ≡ out.old.items ++ flat_map (counted w16) names.now) }
+    ensures { OnOk result (out.new.items ≡ out.old.items ++ flat_map (counted_field w16) names.now) }
 {
     for name in names {
         put_run_u16(alloc, out, name.as_slice())?;
@@ -318,7 +318,7 @@ fn size_of_why(why: &Why) -> u64
 /// How many bytes a name has, behind its length and with it.
 fn size_of_name(name: &Path) -> u64
     requires { IsPart name.now }
-    ensures exact { result ≡ length (counted w16 name.now) }
+    ensures exact { result ≡ length (counted_field w16 name.now) }
     ensures bound { result ≤ max_name }
 {
     size_of_run_u16(name.as_slice())
@@ -328,7 +328,7 @@ fn size_of_name(name: &Path) -> u64
 fn size_of_name_items(names: &[Path]) -> u64
     requires valid { All IsPart names.now }
     requires few { length names.now < 4294967296 }
-    ensures exact { result ≡ length (flat_map (counted w16) names.now) }
+    ensures exact { result ≡ length (flat_map (counted_field w16) names.now) }
     ensures bound { result ≤ 4294967295 * max_name }
 {
     let mut total = 0;

@@ -2,7 +2,7 @@ ghost use Rattle.std.specs.Prelude.{◌≡◌, ◌≤◌, ◌<◌, ◌*◌, ◌+
 ghost use Rattle.std.specs.List.{flat_map};
 ghost use Rattle.std.specs.Int.{w16, w32};
 ghost use Rattle.dl_fields.specs.Readers.{Gives, Reads};
-ghost use Rattle.dl_fields.specs.Fields.{counted, IsCounted};
+ghost use Rattle.dl_fields.specs.Fields.{counted_field, IsCounted};
 ghost use Rattle.dl_fields.specs.Codes.{code_byte};
 ghost use Rattle.dl_fields.specs.Outputs.{Puts};
 ghost use Rattle.dl_tree_msg.specs.Kinds.{mode_field_code, mode_field};
@@ -246,8 +246,8 @@ fn put_create(
     requires path { IsNewPath mode path.now }
     requires bytes { IsCounted w32 bytes.now }
     ensures { OnOk result (out.new.items ≡ out.old.items
-        ++ (code_byte mode_field_code (mode_field mode) ++ (counted w16 path.now
-        ++ counted w32 bytes.now))) }
+        ++ (code_byte mode_field_code (mode_field mode) ++ (counted_field w16 path.now
+        ++ counted_field w32 bytes.now))) }
 {
     let field = ModeField { mode };
     put_u8(alloc, out, field.code())?;
@@ -347,8 +347,8 @@ fn size_of_create(path: &Path, bytes: &Body, mode: Mode) -> u64
     requires path { IsNewPath mode path.now }
     requires bytes { IsCounted w32 bytes.now }
     ensures exact { result ≡ length (code_byte mode_field_code (mode_field mode)
-        ++ (counted w16 path.now
-        ++ counted w32 bytes.now)) }
+        ++ (counted_field w16 path.now
+        ++ counted_field w32 bytes.now)) }
     ensures bound { result ≤ max_op_rest }
 {
     size_of_run_u16(path.as_slice()) + size_of_run_u32(bytes.as_slice()) + 1
