@@ -22,7 +22,8 @@ use Rattle.dl_tree_msg.specs.declared.answer_kind.OutcomeKind.{OutcomeKind}
 use Rattle.dl_tree_msg.specs.declared.answer_kind.OutcomeKind.TheVariants as outcome
 use Rattle.dl_tree_msg.specs.declared.answer_kind.WhyKind.{WhyKind}
 use Rattle.dl_tree_msg.specs.declared.answer_kind.WhyKind.TheVariants as reason
-use Rattle.dl_tree_msg.specs.Answers.{why_kind, why_rest, why_bytes, IsWhy, answer_kind, answer_rest, answer_bytes, IsAnswer, outcome_kind, outcome_rest, outcome_bytes, IsOutcome}
+use Rattle.dl_tree_msg.specs.Answers.{why_kind, why_rest, why_bytes, IsWhy, answer_kind, answer_rest, answer_bytes}
+use Rattle.dl_tree_msg.specs.Answers.{IsAnswer, outcome_kind, outcome_rest, outcome_bytes, IsOutcome}
 use Rattle.dl_tree_msg.specs.AnswerReading.{why_rest_from, why_from, names_from, answer_rest_from, answer_from, answers_from, outcome_rest_from, outcome_from}
 use Rattle.dl_fields.proofs.KindLemmas.{also_exact, nothing_exact, kinded_exact}
 use Rattle.dl_tree_msg.proofs.KindLemmas.{why_kind_exact, answer_kind_exact, outcome_kind_exact}

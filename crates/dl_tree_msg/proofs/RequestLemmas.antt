@@ -25,8 +25,10 @@ use Rattle.dl_tree_msg.specs.declared.op_kind.RequestKind.TheVariants as request
 use Rattle.dl_tree_msg.specs.Versions.{IsVersion}
 use Rattle.dl_tree_msg.specs.declared.rule.PathRule.TheVariants.{All}
 use Rattle.dl_tree_msg.specs.Rules.{allows}
-use Rattle.dl_tree_msg.specs.Requests.{op_kind, op_rest, op_bytes, IsNewPath, IsOp, IsOpAllowed, request_kind, request_rest, request_bytes, IsOpCount, IsRequest, IsAllowed}
-use Rattle.dl_tree_msg.specs.RequestReading.{new_path_from, allowed_path_from, create_from, delete_from, set_from, check_from, get_from, children_from, op_rest_from, op_from, op_count_from, ops_from, request_rest_from, request_from}
+use Rattle.dl_tree_msg.specs.Requests.{op_kind, op_rest, op_bytes, IsNewPath, IsOp, IsOpAllowed, request_kind}
+use Rattle.dl_tree_msg.specs.Requests.{request_rest, request_bytes, IsOpCount, IsRequest, IsAllowed}
+use Rattle.dl_tree_msg.specs.RequestReading.{new_path_from, allowed_path_from, create_from, delete_from, set_from, check_from, get_from}
+use Rattle.dl_tree_msg.specs.RequestReading.{children_from, op_rest_from, op_from, op_count_from, ops_from, request_rest_from, request_from}
 use Rattle.dl_fields.proofs.KindLemmas.{also_exact, kinded_exact}
 use Rattle.dl_tree_msg.proofs.KindLemmas.{op_kind_exact, request_kind_exact, mode_exact, version_exact}
 
