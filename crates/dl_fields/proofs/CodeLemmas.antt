@@ -1,5 +1,6 @@
 -- Codes of closed lists are read exactly.
-use Rattle.std.proofs.Common.{◌≡◌, ℕ, suc, ◌+◌, ◌≤◌, ◌<◌, Bool, true, false, cond, eqb, List, [], ◌∷◌, ◌++◌, length, drop, get_or, Option, Some, None, Ok, Err, inl, inr, refl, sym, ap, subst, ◌∙◌, arith}
+use Rattle.std.proofs.Common.{◌≡◌, ℕ, suc, ◌+◌, ◌≤◌, ◌<◌, Bool, true, false, cond, eqb, List, [], ◌∷◌, ◌++◌, length}
+use Rattle.std.proofs.Common.{drop, get_or, Option, Some, None, Ok, Err, inl, inr, refl, sym, ap, subst, ◌∙◌, arith}
 use Rattle.std.specs.List.{Contains}
 use Rattle.std.specs.Int.{w8}
 use Rattle.std.proofs.lemmas.Bool.{eqb-true}
@@ -18,7 +19,8 @@ value_of_code_is : {K : Type 0} (code : K → ℕ) (ks : List K) (n : ℕ) (k : 
 value_of_code_is code [] n k e = absurd cc
 value_of_code_is {K} code (j ∷ ks) n k e = go (eqb (code j) n) refl e (value_of_code_is code ks n k)
   where
-    go : (t : Bool) → eqb (code j) n ≡ t → cond t (Some j) (value_of_code code ks n) ≡ Some k → (value_of_code code ks n ≡ Some k → Contains ks k × (code k ≡ n))
+    go : (t : Bool) → eqb (code j) n ≡ t → cond t (Some j) (value_of_code code ks n) ≡ Some k
+        → (value_of_code code ks n ≡ Some k → Contains ks k × (code k ≡ n))
         → Contains (j ∷ ks) k × (code k ≡ n)
     go true t h ih = let same : j ≡ k = cc in ((0, omega arith, same), ap code (sym same) ∙ eqb-true (code j) n t)
     go false t h ih = let i = ih h in ((suc i.0.0, omega (arith, i.0.1), i.0.2), i.1)

@@ -1,5 +1,6 @@
 -- Paths and names are read exactly.
-use Rattle.std.proofs.Common.{◌≡◌, ℕ, suc, ◌+◌, ◌≤◌, ◌<◌, Bool, true, false, cond, eqb, ltb, not, ◌&&◌, List, [], ◌∷◌, ◌++◌, length, Option, Some, None, Result, inl, inr, refl, ap, ◌∙◌, arith, length-append}
+use Rattle.std.proofs.Common.{◌≡◌, ℕ, suc, ◌+◌, ◌≤◌, ◌<◌, Bool, true, false, cond, eqb, ltb, not, ◌&&◌, List, [], ◌∷◌}
+use Rattle.std.proofs.Common.{◌++◌, length, Option, Some, None, Result, inl, inr, refl, ap, ◌∙◌, arith, length-append}
 use Rattle.std.specs.List.{AllByRecursion}
 use Rattle.std.specs.Int.{w16}
 use Rattle.std.proofs.lemmas.Bool.{eqb-true, cases_eq, ne_eqb}
@@ -8,7 +9,8 @@ use Rattle.dl_codec.specs.Fields.{field}
 use Rattle.dl_fields.specs.declared.fault.Fault.{Fault}
 use Rattle.dl_fields.specs.Readers.{Exact}
 use Rattle.dl_fields.specs.Fields.{counted_field_from, counted_field, IsCounted}
-use Rattle.dl_fields.specs.Paths.{is_part_byte, IsPart, with_slashes, IsPath, flaw_behind, path_flaw, part_flaw, some_from, path_from, name_from, is_stem, stem_from, IsPathField, IsStemField}
+use Rattle.dl_fields.specs.Paths.{is_part_byte, IsPart, with_slashes, IsPath, flaw_behind, path_flaw, part_flaw}
+use Rattle.dl_fields.specs.Paths.{some_from, path_from, name_from, is_stem, stem_from, IsPathField, IsStemField}
 use Rattle.dl_fields.specs.Laws.{PathsAreExact}
 use Rattle.dl_fields.proofs.ReaderLemmas.{with_test_exact, without_flaw_exact}
 use Rattle.dl_fields.proofs.FieldLemmas.{run16_exact}
@@ -208,7 +210,8 @@ stem_exact = with_test_exact IsPathField (counted_field w16) path_from is_stem p
 
 -- Names of listings are read exactly.
 pub name_exact : Exact IsPart (counted_field w16) name_from
-name_exact = exact_as (without_flaw_exact _ (counted_field w16) some_from (part_flaw 0) (λ a back e. counted_field_long a back (part_back a 0 back e)) some_exact)
+name_exact = exact_as (without_flaw_exact _ (counted_field w16) some_from (part_flaw 0)
+    (λ a back e. counted_field_long a back (part_back a 0 back e)) some_exact)
     (λ part v. let n = part_none part 0 (omega arith) v.1 in record { some = some_bytes (length part) v.0.1; few = omega (arith, n.0); bytes = n.1 })
     (λ part w. ((omega (arith, w.few), some_test (length part) w.some), part_has_none part 0 (omega (arith, w.few)) w.bytes))
 

@@ -1,12 +1,14 @@
 -- The laws of exact readers.
-use Rattle.std.proofs.Common.{◌≡◌, ℕ, ◌+◌, ◌≤◌, ◌<◌, Bool, true, false, cond, eqb, List, [], ◌++◌, length, drop, slice_index, Option, Some, None, Result, Ok, Err, ◌⊎◌, inl, inr, refl, sym, ap, subst, ◌∙◌, append_assoc, arith, length-append}
+use Rattle.std.proofs.Common.{◌≡◌, ℕ, ◌+◌, ◌≤◌, ◌<◌, Bool, true, false, cond, eqb, List, [], ◌++◌, length, drop, slice_index, Option}
+use Rattle.std.proofs.Common.{Some, None, Result, Ok, Err, ◌⊎◌, inl, inr, refl, sym, ap, subst, ◌∙◌, append_assoc, arith, length-append}
 use Rattle.std.proofs.lemmas.Bool.{eqb-true}
 use Rattle.std.proofs.lemmas.List.{append-nil, nil_from_length, get_or-drop, drop_at}
 use Rattle.dl_codec.specs.Fields.{IsBytes}
 use Rattle.dl_fields.specs.declared.fault.Fault.{Fault}
 use Rattle.dl_fields.specs.declared.fault.Fault.TheVariants.{Short, Bad, Long}
 pub use Rattle.dl_reading.proofs.ReadingLemmas.{bind_ok, bind_err, ok_is, err_is}
-use Rattle.dl_fields.specs.Readers.{◌>>=◌, then_at, map_at, field_with_test, with_test, field_without_flaw, without_flaw, whole_field, whole_from, IsWithin, Exact}
+use Rattle.dl_fields.specs.Readers.{◌>>=◌, then_at, map_at, field_with_test, with_test, field_without_flaw}
+use Rattle.dl_fields.specs.Readers.{without_flaw, whole_field, whole_from, IsWithin, Exact}
 
 -- What stands behind a field is bytes too.
 pub bytes_behind : (front rest bytes : List ℕ) → bytes ≡ front ++ rest → IsBytes bytes → IsBytes rest

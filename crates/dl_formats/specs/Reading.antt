@@ -54,7 +54,8 @@ SpellsNone {A} Valid print bytes = (a : A) → Valid a → bytes ≡ print a →
 
 -- What a decoder answers: what is found is valid, and the bytes are its one spelling; what the bytes spell is the answer;
 -- and a fault is the first in the order of the bytes, and then they spell nothing valid.
-pub record Decodes {A B : Type 0} (Valid : A → Type 0) (print : A → List ℕ) (read : List ℕ → Result B MetaBytesFault) (bytes : List ℕ) (result : Result A MetaBytesFault) : Type 0 where
+pub record Decodes {A B : Type 0} (Valid : A → Type 0) (print : A → List ℕ) (read : List ℕ → Result B MetaBytesFault)
+    (bytes : List ℕ) (result : Result A MetaBytesFault) : Type 0 where
   pub found : IfOk result (λ a. Valid a × (bytes ≡ print a))
   pub only : (a : A) → Valid a → bytes ≡ print a → result ≡ Ok a
   pub refused : IfErr result (λ fault. (read bytes ≡ Err fault) × SpellsNone Valid print bytes)

@@ -30,7 +30,8 @@ add_from = map_at (λ (ledger, (entry, (count, bytes))). msg.Add ledger entry co
 -- a copy
 abbrev pub copy_from : List ℕ → Result (Msg × List ℕ) Fault
 copy_from = map_at (λ (tag, (ledger, (entry, (count, bytes)))). msg.Copy tag ledger entry count bytes)
-    (then_at (number_from w32) (λ tag. then_at (number_from w64) (λ ledger. then_at (number_from w64) (λ entry. then_at (number_from w64) (λ count. counted_field_from w32)))))
+    (then_at (number_from w32) (λ tag. then_at (number_from w64) (λ ledger. then_at (number_from w64) (λ entry.
+    then_at (number_from w64) (λ count. counted_field_from w32)))))
 
 -- a question for the confirmed count
 abbrev pub ask_lac_from : List ℕ → Result (Msg × List ℕ) Fault

@@ -1,5 +1,6 @@
 -- Reading an entry in the order of its bytes, up to the first flaw.
-use Rattle.std.specs.Prelude.{◌≡◌, ℕ, zero, suc, ◌+◌, Bool, true, ◌==◌, nat_le, nat_lt, ◌&&◌, not, Option, Some, None, Result, Ok, Err, List, [], ◌∷◌, length, take, slice_range, if◌then◌else◌, IfSome}
+use Rattle.std.specs.Prelude.{◌≡◌, ℕ, zero, suc, ◌+◌, Bool, true, ◌==◌, nat_le, nat_lt, ◌&&◌, not, Option, Some, None}
+use Rattle.std.specs.Prelude.{Result, Ok, Err, List, [], ◌∷◌, length, take, slice_range, if◌then◌else◌, IfSome}
 use Rattle.std.specs.Int.{Width, w8, w16, w32, w64}
 pub use Rattle.dl_reading.specs.Readings.{◌>>=◌, FaultBy, GivesBy}
 use Rattle.dl_types.specs.declared.txid.TheConstants.{MAX_TXID}

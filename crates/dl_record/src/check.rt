@@ -1,6 +1,7 @@
 ghost use Rattle.std.specs.Prelude.{◌≡◌, ◌+◌, ◌≤◌, ◌==◌, ◌↔◌, ℕ, List, None, IfOk, IsOk, IfErr, length};
 ghost use Rattle.dl_record.specs.Grammar.{IsEntryBytes};
-ghost use Rattle.dl_record.specs.Reading.{members_at, records_at, entry_at, verdict, set_rows_at, content_rows_at, behind_at, IsFlaw};
+ghost use Rattle.dl_record.specs.Reading.{members_at, records_at, entry_at, verdict};
+ghost use Rattle.dl_record.specs.Reading.{set_rows_at, content_rows_at, behind_at, IsFlaw};
 
 use crate::entry_flaw::EntryFlaw;
 use crate::head::{head_of, header_of};

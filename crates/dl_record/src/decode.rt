@@ -1,5 +1,6 @@
 ghost use Rattle.std.specs.Prelude.{◌≡◌, ◌+◌, ◌≤◌, ◌<◌, length, take, IfOk, IfErr, List, ℕ, None, Ok, ◌==◌};
-ghost use Rattle.dl_record.specs.Reading.{Gives, members_at, set_at, content_at, record_at, records_at, entry_at, behind_of, Refuses};
+ghost use Rattle.dl_record.specs.Reading.{Gives, members_at, set_at, content_at, record_at};
+ghost use Rattle.dl_record.specs.Reading.{records_at, entry_at, behind_of, Refuses};
 ghost use Rattle.dl_record.specs.declared.stored.Stored.{Stored};
 ghost use Rattle.dl_record.specs.Grammar.{IsEntry, entry_bytes};
 
