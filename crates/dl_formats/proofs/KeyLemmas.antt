@@ -44,12 +44,12 @@ same_parts (p ∷ ps) (q ∷ qs) np nq e =
 
 -- parts tell keys
 
--- a number by which the parts of different kinds of keys are told apart
+-- the first byte of a part
 abbrev head_of : List ℕ → ℕ
 head_of [] = 0
 head_of (c ∷ cs) = c
 
--- the number
+-- a number by which the parts of different kinds of keys are told apart
 abbrev kind_of : List (List ℕ) → ℕ
 kind_of [] = 0
 kind_of (a ∷ []) = head_of a

@@ -125,7 +125,7 @@ abbrev pub cut_from : List ℕ → Result (Cut × List ℕ) Fault
 cut_from = map_at cut_of
     (then_at (between_from w64 1 max_u64) (λ segment. then_at (number_from w64) (λ entry. number_from w32)))
 
--- what a flag and a number say of a ledger: without the flag there is none, and the number is 0
+-- the greatest number of a ledger behind a flag: without the flag there is no ledger, and the number is 0
 abbrev pub most_ledger : ℕ → ℕ
 most_ledger flag = if flag == 0 then 0 else ten_nines
 
