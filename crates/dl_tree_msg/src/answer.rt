@@ -1,10 +1,10 @@
 ghost use Rattle.std.specs.Prelude.{◌≡◌, ◌≤◌, ◌++◌, length, IfOk, OnOk};
-ghost use Rattle.std.specs.Int.{w16, w32};
+ghost use Rattle.std.specs.Int.{w16};
 ghost use Rattle.dl_fields.specs.Readers.{Gives, Reads};
-ghost use Rattle.dl_fields.specs.Fields.{counted_field, IsCounted};
+ghost use Rattle.dl_fields.specs.Fields.{counted_field};
 ghost use Rattle.dl_fields.specs.Outputs.{Puts};
 ghost use Rattle.dl_fields.specs.Paths.{IsPart, name_from};
-ghost use Rattle.dl_tree_msg.specs.Answers.{why_rest, why_bytes, IsWhy, answer_rest, answer_bytes};
+ghost use Rattle.dl_tree_msg.specs.Answers.{why_rest, why_bytes, answer_rest, answer_bytes};
 ghost use Rattle.dl_tree_msg.specs.Answers.{IsAnswer, outcome_rest, outcome_bytes, IsOutcome};
 ghost use Rattle.dl_tree_msg.specs.Sizes.{max_name, max_answer_rest, max_answer, max_outcome};
 ghost use Rattle.dl_tree_msg.specs.AnswerReading.{why_rest_from, why_from, names_from, answer_rest_from};
