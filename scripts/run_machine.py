@@ -777,7 +777,7 @@ EXPECTED = {
         dl_rules_stream.LogReaders.after_gone dl_rules_stream.LogReaders.is_gone_again dl_rules_stream.LogReaders.rows_in
         dl_rules_stream.Orders.or_gave_up dl_rules_stream.Orders.or_refused dl_rules_stream.Orders.◌>>=◌ dl_rules_stream.Requests.path_in
         dl_rules_stream.Requests.path_nth dl_rules_stream.SegmentRecoveries.end_by dl_rules_stream.SegmentRecoveries.end_in
-        dl_rules_stream.SegmentRecoveries.not_completed dl_record.Building.last_of dl_record.Reading dl_codec.Fields.number_at dl_fields.Readers.ended
+        dl_rules_stream.SegmentRecoveries.not_completed dl_record.Building.last_of dl_record.Reading dl_codec.Fields.number_at dl_fields.Readers.whole_field
         dl_formats.Reading.fault_at dl_formats.Keys.parts_of""",
     "names of children come in byte order, and only the last segment is in progress": "dl_rules_stream.Listings.placed dl_rules_stream.Locks.least_with",
     "an order's tagged answers of one kind are of one ledger": "dl_rules_ledger.Readers.hears dl_rules_ledger.Recoveries.recovers",

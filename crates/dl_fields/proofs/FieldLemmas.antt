@@ -1,5 +1,6 @@
 -- Numbers and runs of bytes are read exactly.
-use Rattle.std.proofs.Common.{◌≡◌, ℕ, ◌≤◌, Bool, true, false, cond, leb, List, ◌++◌, length, take, drop, Result, Ok, Err, inl, inr, refl, sym, ap, subst, ◌∙◌, arith, length-append}
+use Rattle.std.proofs.Common.{◌≡◌, ℕ, ◌≤◌, Bool, true, false, cond, leb, List, ◌++◌, length, take, drop}
+use Rattle.std.proofs.Common.{Result, Ok, Err, inl, inr, refl, sym, ap, subst, ◌∙◌, arith, length-append}
 use Rattle.std.specs.Int.{Width, byte_len, w8, w16, w32, w64}
 use Rattle.std.proofs.lemmas.Bool.{leb-true, le-leb, cases_lt}
 use Rattle.std.proofs.lemmas.List.{take_at, drop_at, take-append-drop, length-take-le, length-take, get_or-take, get_or_past}
@@ -9,7 +10,7 @@ use Rattle.dl_codec.proofs.FieldLaws.{width_8, width_16, width_32, width_64}
 use Rattle.dl_fields.specs.declared.fault.Fault.{Fault}
 use Rattle.dl_fields.specs.declared.fault.Fault.TheVariants.{Short}
 use Rattle.dl_fields.specs.Readers.{Exact, IsWithin}
-use Rattle.dl_fields.specs.Fields.{run_from, number_from, Fits, counted_from, counted, IsCounted}
+use Rattle.dl_fields.specs.Fields.{run_from, number_from, Fits, counted_field_from, counted_field, IsCounted}
 use Rattle.dl_fields.specs.Laws.{WidthIsExact}
 use Rattle.dl_fields.proofs.ReaderLemmas.{bind_ok, bind_err, ok_is, err_is, then_exact, made_exact}
 
@@ -83,15 +84,15 @@ number_exact w law = record {
 }
 
 -- Bytes behind their length.
-pub counted_exact : (w : Width) → HasOneSpelling w → Exact (IsCounted w) (counted w) (counted_from w)
-counted_exact w law = made_exact _ _ _ (λ x. x.1) (IsCounted w) (counted w)
+pub counted_field_exact : (w : Width) → HasOneSpelling w → Exact (IsCounted w) (counted_field w) (counted_field_from w)
+counted_field_exact w law = made_exact _ _ _ (λ x. x.1) (IsCounted w) (counted_field w)
     (then_exact (Fits w) (field w) (number_from w) (λ n run. length run ≡ n) (λ n run. run) run_from (number_exact w law) (λ n v. run_exact n))
     (λ x v. (subst (Fits w) (sym v.1) v.0, ap (λ (n : ℕ). field w n ++ x.1) v.1))
     (λ run v. ((length run, run), (v, refl), refl))
 
 -- Numbers of a width that have one spelling, and bytes behind their length, are read exactly.
 pub width_exact : (w : Width) → HasOneSpelling w → WidthIsExact w
-width_exact w law = record { number = number_exact w law; counted = counted_exact w law }
+width_exact w law = record { number = number_exact w law; counted = counted_field_exact w law }
 
 -- Numbers of 8 bits are read exactly.
 pub u8_exact : Exact (Fits w8) (field w8) (number_from w8)
@@ -110,9 +111,9 @@ pub u64_exact : Exact (Fits w64) (field w64) (number_from w64)
 u64_exact = number_exact w64 width_64
 
 -- Bytes behind their length of 16 bits are read exactly.
-pub run16_exact : Exact (IsCounted w16) (counted w16) (counted_from w16)
-run16_exact = counted_exact w16 width_16
+pub run16_exact : Exact (IsCounted w16) (counted_field w16) (counted_field_from w16)
+run16_exact = counted_field_exact w16 width_16
 
 -- Bytes behind their length of 32 bits are read exactly.
-pub run32_exact : Exact (IsCounted w32) (counted w32) (counted_from w32)
-run32_exact = counted_exact w32 width_32
+pub run32_exact : Exact (IsCounted w32) (counted_field w32) (counted_field_from w32)
+run32_exact = counted_field_exact w32 width_32

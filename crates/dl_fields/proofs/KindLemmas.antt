@@ -3,7 +3,7 @@ use Rattle.std.proofs.Common.{◌≡◌, ℕ, ◌<◌, Bool, true, false, List, 
 use Rattle.std.specs.List.{Contains}
 use Rattle.dl_fields.specs.declared.fault.Fault.{Fault}
 use Rattle.dl_fields.specs.Readers.{then_at, map_at, nothing_from, Exact}
-use Rattle.dl_fields.specs.Codes.{coded, code_byte, code_from}
+use Rattle.dl_fields.specs.Codes.{value_of_code, code_byte, code_from}
 use Rattle.dl_fields.specs.Flags.{flag_code, flags, flag_byte, flag_from}
 use Rattle.dl_fields.proofs.ReaderLemmas.{Both, print_both, then_exact, made_exact, ok_is}
 use Rattle.dl_fields.proofs.CodeLemmas.{all_codes_exact}
@@ -36,7 +36,7 @@ kinded_exact {K} {A} {kp} {kr} kind_of W rest read first second =
 
 -- a value of the list, which is found by its code, and its code is a byte
 abbrev pub Coded : {K : Type 0} → (K → ℕ) → List K → K → Type 0
-Coded code ks k = Contains ks k × ((coded code ks (code k) ≡ Some k) × (code k < 256))
+Coded code ks k = Contains ks k × ((value_of_code code ks (code k) ≡ Some k) × (code k < 256))
 
 -- Values that are all of the list are read exactly.
 pub kinds_exact : {K : Type 0} (code : K → ℕ) (ks : List K) → ((k : K) → Coded code ks k) → Exact (λ (k : K). Unit {0}) (code_byte code) (code_from code ks)

@@ -1,5 +1,6 @@
 -- Paths and names are read exactly.
-use Rattle.std.proofs.Common.{◌≡◌, ℕ, suc, ◌+◌, ◌≤◌, ◌<◌, Bool, true, false, cond, eqb, ltb, not, ◌&&◌, List, [], ◌∷◌, ◌++◌, length, Option, Some, None, Result, inl, inr, refl, ap, ◌∙◌, arith, length-append}
+use Rattle.std.proofs.Common.{◌≡◌, ℕ, suc, ◌+◌, ◌≤◌, ◌<◌, Bool, true, false, cond, eqb, ltb, not, ◌&&◌, List, [], ◌∷◌}
+use Rattle.std.proofs.Common.{◌++◌, length, Option, Some, None, Result, inl, inr, refl, ap, ◌∙◌, arith, length-append}
 use Rattle.std.specs.List.{AllByRecursion}
 use Rattle.std.specs.Int.{w16}
 use Rattle.std.proofs.lemmas.Bool.{eqb-true, cases_eq, ne_eqb}
@@ -7,10 +8,11 @@ use Rattle.std.proofs.lemmas.Bool.Decides.{nat_tests}
 use Rattle.dl_codec.specs.Fields.{field}
 use Rattle.dl_fields.specs.declared.fault.Fault.{Fault}
 use Rattle.dl_fields.specs.Readers.{Exact}
-use Rattle.dl_fields.specs.Fields.{counted_from, counted, IsCounted}
-use Rattle.dl_fields.specs.Paths.{is_part_byte, IsPart, joined, IsPath, flaw_behind, path_flaw, part_flaw, some_from, path_from, name_from, is_stem, stem_from, IsPathField, IsStemField}
+use Rattle.dl_fields.specs.Fields.{counted_field_from, counted_field, IsCounted}
+use Rattle.dl_fields.specs.Paths.{is_part_byte, IsPart, with_slashes, IsPath, flaw_behind, path_flaw, part_flaw}
+use Rattle.dl_fields.specs.Paths.{some_from, path_from, name_from, is_stem, stem_from, IsPathField, IsStemField}
 use Rattle.dl_fields.specs.Laws.{PathsAreExact}
-use Rattle.dl_fields.proofs.ReaderLemmas.{passing_exact, flawless_exact}
+use Rattle.dl_fields.proofs.ReaderLemmas.{with_test_exact, without_flaw_exact}
 use Rattle.dl_fields.proofs.FieldLemmas.{run16_exact}
 
 -- so many bytes of a part, and the rest of it
@@ -21,7 +23,7 @@ record Rest (n : ℕ) (part : List ℕ) : Type 0 where
 
 -- the rest of a part, and further parts
 abbrev Goes : ℕ → List ℕ → Type 0
-Goes n path = (part : List ℕ) × (parts : List (List ℕ)) × (path ≡ part ++ joined parts) × Rest n part × AllByRecursion IsPart parts
+Goes n path = (part : List ℕ) × (parts : List (List ℕ)) × (path ≡ part ++ with_slashes parts) × Rest n part × AllByRecursion IsPart parts
 
 -- what goes on to its end is a part
 part_of : (part : List ℕ) → Rest 0 part → IsPart part
@@ -46,7 +48,7 @@ goes_step n c cs le ends goes true false t u ea eb et eu e =
     let g = ends e in
     let here : c ≡ 47 = eqb-true c 47 ea in
     let some : 0 < n = grind (arith, nat_tests, eb) in
-    let text : c ∷ cs ≡ [] ++ joined (g.0 ∷ g.1) = ap (λ (l : List ℕ). c ∷ l) g.2 ∙ ap (λ (x : ℕ). x ∷ (g.0 ++ joined g.1)) here in
+    let text : c ∷ cs ≡ [] ++ with_slashes (g.0 ∷ g.1) = ap (λ (l : List ℕ). c ∷ l) g.2 ∙ ap (λ (x : ℕ). x ∷ (g.0 ++ with_slashes g.1)) here in
     ([], g.0 ∷ g.1, text, record { some = omega (arith, some); few = omega (arith, le); bytes = tt }, (part_of g.0 g.3, g.4))
 goes_step n c cs le ends goes false b true true ea eb et eu e =
     let g = goes (grind (arith, nat_tests, eu)) e in
@@ -75,7 +77,7 @@ sound_go c [] true b ea eb e = ([], tt, ap (λ (x : ℕ). x ∷ []) (eqb-true c 
 sound_go c (d ∷ cs) true true ea eb e = absurd (let wrong : eqb (suc (length cs)) 0 ≡ true = eb in grind (arith, nat_tests, wrong))
 sound_go c (d ∷ cs) true false ea eb e =
     let g = flaw_none (d ∷ cs) 0 (omega arith) e in
-    (g.0 ∷ g.1, (part_of g.0 g.3, g.4), ap (λ (l : List ℕ). c ∷ l) g.2 ∙ ap (λ (x : ℕ). x ∷ (g.0 ++ joined g.1)) (eqb-true c 47 ea))
+    (g.0 ∷ g.1, (part_of g.0 g.3, g.4), ap (λ (l : List ℕ). c ∷ l) g.2 ∙ ap (λ (x : ℕ). x ∷ (g.0 ++ with_slashes g.1)) (eqb-true c 47 ea))
 
 -- A path without a flaw has the form.
 pub sound : (path : List ℕ) → 0 < length path → path_flaw path ≡ None → IsPath path
@@ -91,11 +93,11 @@ none_go : (n c : ℕ) (cs : List ℕ) → is_part_byte c ≡ true → n < 80 →
 none_go n c cs byte few e = rw (no_slash c byte) (rw byte (rw (let t : ltb n 80 ≡ true = grind (arith, nat_tests, few) in t) e))
 
 -- the rest of a part and further parts have no flaw
-goes_none : (part : List ℕ) (parts : List (List ℕ)) (n : ℕ) → Rest n part → AllByRecursion IsPart parts → flaw_behind n (part ++ joined parts) ≡ None
+goes_none : (part : List ℕ) (parts : List (List ℕ)) (n : ℕ) → Rest n part → AllByRecursion IsPart parts → flaw_behind n (part ++ with_slashes parts) ≡ None
 goes_none [] [] n r all = let some : eqb n 0 ≡ false = grind (arith, nat_tests, r.some) in rw some refl
 goes_none [] (p ∷ ps) n r all = let some : eqb n 0 ≡ false = grind (arith, nat_tests, r.some) in rw some (goes_none p ps 0 (rest_of p all.0) all.1)
 goes_none (c ∷ part) parts n r all =
-    none_go n c (part ++ joined parts) r.bytes.0 (omega (arith, r.few))
+    none_go n c (part ++ with_slashes parts) r.bytes.0 (omega (arith, r.few))
     (goes_none part parts (suc n) (record { some = omega arith; few = omega (arith, r.few); bytes = r.bytes.1 }) all)
 
 -- The path of parts has no flaw.
@@ -103,9 +105,9 @@ pub complete : (path : List ℕ) → IsPath path → path_flaw path ≡ None
 complete path ([], all, e) = rw e refl
 complete path (p ∷ ps, all, e) = rw e (go p (all.0).some (goes_none p ps 0 (rest_of p all.0) all.1))
   where
-    go : (q : List ℕ) → 0 < length q → flaw_behind 0 (q ++ joined ps) ≡ None → path_flaw (47 ∷ (q ++ joined ps)) ≡ None
+    go : (q : List ℕ) → 0 < length q → flaw_behind 0 (q ++ with_slashes ps) ≡ None → path_flaw (47 ∷ (q ++ with_slashes ps)) ≡ None
     go [] some h = absurd (omega (arith, some))
-    go (c ∷ q) some h = let more : eqb (suc (length (q ++ joined ps))) 0 ≡ false = grind (arith, nat_tests) in rw more h
+    go (c ∷ q) some h = let more : eqb (suc (length (q ++ with_slashes ps))) 0 ≡ false = grind (arith, nat_tests) in rw more h
 
 -- a flaw stands within the path
 back_behind : (cs : List ℕ) (n back : ℕ) → flaw_behind n cs ≡ Some back → back ≤ suc (length cs)
@@ -176,8 +178,8 @@ exact_as exact to from = record {
 }
 
 -- bytes behind their length, at least one, are read exactly
-some_exact : Exact (λ run. IsCounted w16 run × (not (eqb (length run) 0) ≡ true)) (counted w16) some_from
-some_exact = passing_exact (IsCounted w16) (counted w16) (counted_from w16) (λ run. not (eqb (length run) 0)) run16_exact
+some_exact : Exact (λ run. IsCounted w16 run × (not (eqb (length run) 0) ≡ true)) (counted_field w16) some_from
+some_exact = with_test_exact (IsCounted w16) (counted_field w16) (counted_field_from w16) (λ run. not (eqb (length run) 0)) run16_exact
 
 -- a number that is not 0 is above it
 some_bytes : (n : ℕ) → not (eqb n 0) ≡ true → 0 < n
@@ -193,22 +195,23 @@ path_some path ([], all, e) = rw e (omega arith)
 path_some path (p ∷ ps, all, e) = rw e (omega arith)
 
 -- behind its length
-counted_long : (run : List ℕ) (back : ℕ) → back ≤ length run → back ≤ length (counted w16 run)
-counted_long run back le = omega (arith, le, length-append (field w16 (length run)) run)
+counted_field_long : (run : List ℕ) (back : ℕ) → back ≤ length run → back ≤ length (counted_field w16 run)
+counted_field_long run back le = omega (arith, le, length-append (field w16 (length run)) run)
 
 -- Paths are read exactly.
-pub path_exact : Exact IsPathField (counted w16) path_from
-path_exact = exact_as (flawless_exact _ (counted w16) some_from path_flaw (λ a back e. counted_long a back (path_back a back e)) some_exact)
+pub path_exact : Exact IsPathField (counted_field w16) path_from
+path_exact = exact_as (without_flaw_exact _ (counted_field w16) some_from path_flaw (λ a back e. counted_field_long a back (path_back a back e)) some_exact)
     (λ path v. (sound path (some_bytes (length path) v.0.1) v.1, v.0.0))
     (λ path w. ((w.1, some_test (length path) (path_some path w.0)), complete path w.0))
 
 -- Paths to which ten digits may be added are read exactly.
-pub stem_exact : Exact IsStemField (counted w16) stem_from
-stem_exact = passing_exact IsPathField (counted w16) path_from is_stem path_exact
+pub stem_exact : Exact IsStemField (counted_field w16) stem_from
+stem_exact = with_test_exact IsPathField (counted_field w16) path_from is_stem path_exact
 
 -- Names of listings are read exactly.
-pub name_exact : Exact IsPart (counted w16) name_from
-name_exact = exact_as (flawless_exact _ (counted w16) some_from (part_flaw 0) (λ a back e. counted_long a back (part_back a 0 back e)) some_exact)
+pub name_exact : Exact IsPart (counted_field w16) name_from
+name_exact = exact_as (without_flaw_exact _ (counted_field w16) some_from (part_flaw 0)
+    (λ a back e. counted_field_long a back (part_back a 0 back e)) some_exact)
     (λ part v. let n = part_none part 0 (omega arith) v.1 in record { some = some_bytes (length part) v.0.1; few = omega (arith, n.0); bytes = n.1 })
     (λ part w. ((omega (arith, w.few), some_test (length part) w.some), part_has_none part 0 (omega (arith, w.few)) w.bytes))
 

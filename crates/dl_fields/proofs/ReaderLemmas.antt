@@ -1,12 +1,14 @@
 -- The laws of exact readers.
-use Rattle.std.proofs.Common.{◌≡◌, ℕ, ◌+◌, ◌≤◌, ◌<◌, Bool, true, false, cond, eqb, List, [], ◌++◌, length, drop, slice_index, Option, Some, None, Result, Ok, Err, ◌⊎◌, inl, inr, refl, sym, ap, subst, ◌∙◌, append_assoc, arith, length-append}
+use Rattle.std.proofs.Common.{◌≡◌, ℕ, ◌+◌, ◌≤◌, ◌<◌, Bool, true, false, cond, eqb, List, [], ◌++◌, length, drop, slice_index, Option}
+use Rattle.std.proofs.Common.{Some, None, Result, Ok, Err, ◌⊎◌, inl, inr, refl, sym, ap, subst, ◌∙◌, append_assoc, arith, length-append}
 use Rattle.std.proofs.lemmas.Bool.{eqb-true}
 use Rattle.std.proofs.lemmas.List.{append-nil, nil_from_length, get_or-drop, drop_at}
 use Rattle.dl_codec.specs.Fields.{IsBytes}
 use Rattle.dl_fields.specs.declared.fault.Fault.{Fault}
 use Rattle.dl_fields.specs.declared.fault.Fault.TheVariants.{Short, Bad, Long}
 pub use Rattle.dl_reading.proofs.ReadingLemmas.{bind_ok, bind_err, ok_is, err_is}
-use Rattle.dl_fields.specs.Readers.{◌>>=◌, then_at, map_at, passed, passing, judged, flawless, ended, whole_from, IsWithin, Exact}
+use Rattle.dl_fields.specs.Readers.{◌>>=◌, then_at, map_at, field_with_test, with_test, field_without_flaw}
+use Rattle.dl_fields.specs.Readers.{without_flaw, whole_field, whole_from, IsWithin, Exact}
 
 -- What stands behind a field is bytes too.
 pub bytes_behind : (front rest bytes : List ℕ) → bytes ≡ front ++ rest → IsBytes bytes → IsBytes rest
@@ -120,63 +122,63 @@ made_exact {A} {S} V p r make W q exact to from = record {
 -- ---- a field that passes a test
 
 -- a field that passes a test is kept
-passed_ok : {A : Type 0} (test : A → Bool) (size : ℕ) (x y : A × List ℕ) → passed test size x ≡ Ok y → (test x.0 ≡ true) × (x ≡ y)
-passed_ok {A} test size x y e = go (test x.0) refl e
+field_with_test_ok : {A : Type 0} (test : A → Bool) (size : ℕ) (x y : A × List ℕ) → field_with_test test size x ≡ Ok y → (test x.0 ≡ true) × (x ≡ y)
+field_with_test_ok {A} test size x y e = go (test x.0) refl e
   where
     go : (t : Bool) → test x.0 ≡ t → cond {A = Result (A × List ℕ) Fault} t (Ok x) (Err (Bad size)) ≡ Ok y → (test x.0 ≡ true) × (x ≡ y)
     go true t h = (t, ok_is x y h)
     go false t h = absurd cc
 
 -- a field that fails a test is bad at its first byte
-passed_err : {A : Type 0} (test : A → Bool) (size : ℕ) (x : A × List ℕ) (fault : Fault) → passed test size x ≡ Err fault → Bad size ≡ fault
-passed_err {A} test size x fault e = go (test x.0) refl e
+field_with_test_err : {A : Type 0} (test : A → Bool) (size : ℕ) (x : A × List ℕ) (fault : Fault) → field_with_test test size x ≡ Err fault → Bad size ≡ fault
+field_with_test_err {A} test size x fault e = go (test x.0) refl e
   where
     go : (t : Bool) → test x.0 ≡ t → cond {A = Result (A × List ℕ) Fault} t (Ok x) (Err (Bad size)) ≡ Err fault → Bad size ≡ fault
     go true t h = absurd cc
     go false t h = err_is {A = A × List ℕ} (Bad size) fault h
 
 -- A field that passes a test.
-pub passing_exact : {A : Type 0} (V : A → Type 0) (p : A → List ℕ) (r : List ℕ → Result (A × List ℕ) Fault) (test : A → Bool) → Exact V p r
-    → Exact (λ a. V a × (test a ≡ true)) p (passing test r)
-passing_exact {A} V p r test exact = record {
-  found = λ bytes a rest fits e. let u = bind_ok (r bytes) (passed test (length bytes)) (a, rest) e in
-      let k = passed_ok test (length bytes) u.0 (a, rest) u.2 in
+pub with_test_exact : {A : Type 0} (V : A → Type 0) (p : A → List ℕ) (r : List ℕ → Result (A × List ℕ) Fault) (test : A → Bool) → Exact V p r
+    → Exact (λ a. V a × (test a ≡ true)) p (with_test test r)
+with_test_exact {A} V p r test exact = record {
+  found = λ bytes a rest fits e. let u = bind_ok (r bytes) (field_with_test test (length bytes)) (a, rest) e in
+      let k = field_with_test_ok test (length bytes) u.0 (a, rest) u.2 in
       let P : A × List ℕ → Type 0 = λ x. (test x.0 ≡ true) × (r bytes ≡ Ok x) in
       let g : P (a, rest) = subst P k.1 (k.0, u.1) in
       let f = exact.found bytes a rest fits g.1 in ((f.0, g.0), f.1);
   again = λ a rest v. rw (exact.again a rest v.0) (rw v.1 refl);
-  within = λ bytes fault fits e. elim (bind_err (r bytes) (passed test (length bytes)) fault e) [
+  within = λ bytes fault fits e. elim (bind_err (r bytes) (field_with_test test (length bytes)) fault e) [
     | inl h ↦ exact.within bytes fault fits h
-    | inr w ↦ subst (IsWithin (length bytes)) (passed_err test (length bytes) w.0 fault w.2) (let le : length bytes ≤ length bytes = omega arith in le)
+    | inr w ↦ subst (IsWithin (length bytes)) (field_with_test_err test (length bytes) w.0 fault w.2) (let le : length bytes ≤ length bytes = omega arith in le)
   ];
 }
 
 -- ---- a field without a flaw
 
 -- a field without a flaw is kept
-judged_ok : {A : Type 0} (o : Option ℕ) (x y : A × List ℕ) → judged o x ≡ Ok y → (o ≡ None) × (x ≡ y)
-judged_ok None x y e = (refl, ok_is x y e)
-judged_ok (Some back) x y e = absurd cc
+field_without_flaw_ok : {A : Type 0} (o : Option ℕ) (x y : A × List ℕ) → field_without_flaw o x ≡ Ok y → (o ≡ None) × (x ≡ y)
+field_without_flaw_ok None x y e = (refl, ok_is x y e)
+field_without_flaw_ok (Some back) x y e = absurd cc
 
 -- a field with a flaw is bad at it
-judged_err : {A : Type 0} (o : Option ℕ) (x : A × List ℕ) (fault : Fault) → judged o x ≡ Err fault
+field_without_flaw_err : {A : Type 0} (o : Option ℕ) (x : A × List ℕ) (fault : Fault) → field_without_flaw o x ≡ Err fault
     → (back : ℕ) × (o ≡ Some back) × (Bad (length x.1 + back) ≡ fault)
-judged_err None x fault e = absurd cc
-judged_err {A} (Some back) x fault e = (back, refl, err_is {A = A × List ℕ} (Bad (length x.1 + back)) fault e)
+field_without_flaw_err None x fault e = absurd cc
+field_without_flaw_err {A} (Some back) x fault e = (back, refl, err_is {A = A × List ℕ} (Bad (length x.1 + back)) fault e)
 
 -- A field without a flaw, where a flaw stands within the field.
-pub flawless_exact : {A : Type 0} (V : A → Type 0) (p : A → List ℕ) (r : List ℕ → Result (A × List ℕ) Fault) (flaw : A → Option ℕ)
-    → ((a : A) (back : ℕ) → flaw a ≡ Some back → back ≤ length (p a)) → Exact V p r → Exact (λ a. V a × (flaw a ≡ None)) p (flawless flaw r)
-flawless_exact {A} V p r flaw inside exact = record {
-  found = λ bytes a rest fits e. let u = bind_ok (r bytes) (λ (x : A × List ℕ). judged (flaw x.0) x) (a, rest) e in
-      let k = judged_ok (flaw u.0.0) u.0 (a, rest) u.2 in
+pub without_flaw_exact : {A : Type 0} (V : A → Type 0) (p : A → List ℕ) (r : List ℕ → Result (A × List ℕ) Fault) (flaw : A → Option ℕ)
+    → ((a : A) (back : ℕ) → flaw a ≡ Some back → back ≤ length (p a)) → Exact V p r → Exact (λ a. V a × (flaw a ≡ None)) p (without_flaw flaw r)
+without_flaw_exact {A} V p r flaw inside exact = record {
+  found = λ bytes a rest fits e. let u = bind_ok (r bytes) (λ (x : A × List ℕ). field_without_flaw (flaw x.0) x) (a, rest) e in
+      let k = field_without_flaw_ok (flaw u.0.0) u.0 (a, rest) u.2 in
       let P : A × List ℕ → Type 0 = λ x. (flaw x.0 ≡ None) × (r bytes ≡ Ok x) in
       let g : P (a, rest) = subst P k.1 (k.0, u.1) in
       let f = exact.found bytes a rest fits g.1 in ((f.0, g.0), f.1);
   again = λ a rest v. rw (exact.again a rest v.0) (rw v.1 refl);
-  within = λ bytes fault fits e. elim (bind_err (r bytes) (λ (x : A × List ℕ). judged (flaw x.0) x) fault e) [
+  within = λ bytes fault fits e. elim (bind_err (r bytes) (λ (x : A × List ℕ). field_without_flaw (flaw x.0) x) fault e) [
     | inl h ↦ exact.within bytes fault fits h
-    | inr w ↦ let k = judged_err (flaw w.0.0) w.0 fault w.2 in
+    | inr w ↦ let k = field_without_flaw_err (flaw w.0.0) w.0 fault w.2 in
         let f = exact.found bytes w.0.0 w.0.1 fits w.1 in
         let le : length w.0.1 + k.0 ≤ length bytes = omega (arith, inside w.0.0 k.0 k.1, ap length f.1, length-append (p w.0.0) w.0.1) in
         subst (IsWithin (length bytes)) k.2 le
@@ -186,16 +188,16 @@ flawless_exact {A} V p r flaw inside exact = record {
 -- ---- a field that is all of the bytes
 
 -- nothing is left behind a field that ends the bytes
-ended_ok : {A : Type 0} (x : A × List ℕ) (a : A) → ended x ≡ Ok a → (x.0 ≡ a) × (x.1 ≡ [])
-ended_ok {A} x a e = go (eqb (length x.1) 0) refl e
+whole_field_ok : {A : Type 0} (x : A × List ℕ) (a : A) → whole_field x ≡ Ok a → (x.0 ≡ a) × (x.1 ≡ [])
+whole_field_ok {A} x a e = go (eqb (length x.1) 0) refl e
   where
     go : (t : Bool) → eqb (length x.1) 0 ≡ t → cond {A = Result A Fault} t (Ok x.0) (Err (Long (length x.1))) ≡ Ok a → (x.0 ≡ a) × (x.1 ≡ [])
     go true t h = (ok_is x.0 a h, nil_from_length x.1 (eqb-true _ _ t))
     go false t h = absurd cc
 
 -- bytes that are left are too long at the first of them
-ended_err : {A : Type 0} (x : A × List ℕ) (fault : Fault) → ended x ≡ Err fault → Long (length x.1) ≡ fault
-ended_err {A} x fault e = go (eqb (length x.1) 0) refl e
+whole_field_err : {A : Type 0} (x : A × List ℕ) (fault : Fault) → whole_field x ≡ Err fault → Long (length x.1) ≡ fault
+whole_field_err {A} x fault e = go (eqb (length x.1) 0) refl e
   where
     go : (t : Bool) → eqb (length x.1) 0 ≡ t → cond {A = Result A Fault} t (Ok x.0) (Err (Long (length x.1))) ≡ Err fault → Long (length x.1) ≡ fault
     go true t h = absurd cc
@@ -205,8 +207,8 @@ ended_err {A} x fault e = go (eqb (length x.1) 0) refl e
 pub whole_found : {A : Type 0} {V : A → Type 0} {p : A → List ℕ} {r : List ℕ → Result (A × List ℕ) Fault} → Exact V p r → (bytes : List ℕ) (a : A)
     → IsBytes bytes → whole_from r bytes ≡ Ok a → V a × (bytes ≡ p a)
 whole_found {A} {V} {p} {r} exact bytes a fits e =
-    let u = bind_ok (r bytes) ended a e in
-    let k = ended_ok u.0 a u.2 in
+    let u = bind_ok (r bytes) whole_field a e in
+    let k = whole_field_ok u.0 a u.2 in
     let f = exact.found bytes u.0.0 u.0.1 fits u.1 in
     let text : bytes ≡ p u.0.0 = f.1 ∙ ap (λ (t : List ℕ). p u.0.0 ++ t) k.1 ∙ append-nil (p u.0.0) in
     let P : A → Type 0 = λ x. V x × (bytes ≡ p x) in
@@ -217,7 +219,7 @@ pub whole_again : {A : Type 0} {V : A → Type 0} {p : A → List ℕ} {r : List
     → whole_from r (p a) ≡ Ok a
 whole_again {A} {V} {p} {r} exact a v =
     let read : r (p a) ≡ Ok (a, []) = ap r (sym (append-nil (p a))) ∙ exact.again a [] v in
-    ap (λ (x : Result (A × List ℕ) Fault). x >>= ended) read
+    ap (λ (x : Result (A × List ℕ) Fault). x >>= whole_field) read
 
 -- Where all bytes are refused, they spell no valid value.
 pub whole_refused : {A : Type 0} {V : A → Type 0} {p : A → List ℕ} {r : List ℕ → Result (A × List ℕ) Fault} → Exact V p r
@@ -227,9 +229,9 @@ whole_refused {A} {V} {p} {r} exact bytes fault e a v same = let read : whole_fr
 -- A fault stands within the bytes.
 pub whole_within : {A : Type 0} {V : A → Type 0} {p : A → List ℕ} {r : List ℕ → Result (A × List ℕ) Fault} → Exact V p r
     → (bytes : List ℕ) (fault : Fault) → IsBytes bytes → whole_from r bytes ≡ Err fault → IsWithin (length bytes) fault
-whole_within {A} {V} {p} {r} exact bytes fault fits e = elim (bind_err (r bytes) ended fault e) [
+whole_within {A} {V} {p} {r} exact bytes fault fits e = elim (bind_err (r bytes) whole_field fault e) [
   | inl h ↦ exact.within bytes fault fits h
   | inr w ↦ let f = exact.found bytes w.0.0 w.0.1 fits w.1 in
       let le : length w.0.1 ≤ length bytes = omega (arith, ap length f.1, length-append (p w.0.0) w.0.1) in
-      subst (IsWithin (length bytes)) (ended_err w.0 fault w.2) le
+      subst (IsWithin (length bytes)) (whole_field_err w.0 fault w.2) le
 ]

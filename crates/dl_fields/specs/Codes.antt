@@ -8,18 +8,18 @@ use Rattle.dl_fields.specs.Readers.{◌>>=◌}
 use Rattle.dl_fields.specs.Fields.{number_from}
 
 -- the first value of the list that has this code
-abbrev pub coded : {K : Type 0} → (K → ℕ) → List K → ℕ → Option K
-coded code [] n = None
-coded code (k ∷ ks) n = if code k == n then Some k else coded code ks n
+abbrev pub value_of_code : {K : Type 0} → (K → ℕ) → List K → ℕ → Option K
+value_of_code code [] n = None
+value_of_code code (k ∷ ks) n = if code k == n then Some k else value_of_code code ks n
 
 -- the value that was found, or a bad byte where so many bytes are left
-abbrev pub known : {K : Type 0} → Option K → ℕ → List ℕ → Result (K × List ℕ) Fault
-known (Some k) size rest = Ok (k, rest)
-known None size rest = Err (Bad size)
+abbrev pub or_bad : {K : Type 0} → Option K → ℕ → List ℕ → Result (K × List ℕ) Fault
+or_bad (Some k) size rest = Ok (k, rest)
+or_bad None size rest = Err (Bad size)
 
 -- the value whose code is the first byte; a byte that is no code of the list is bad
 abbrev pub code_from : {K : Type 0} → (K → ℕ) → List K → List ℕ → Result (K × List ℕ) Fault
-code_from code ks bytes = number_from w8 bytes >>= λ x. known (coded code ks x.0) (length bytes) x.1
+code_from code ks bytes = number_from w8 bytes >>= λ x. or_bad (value_of_code code ks x.0) (length bytes) x.1
 
 -- the byte of a code
 abbrev pub code_byte : {K : Type 0} → (K → ℕ) → K → List ℕ

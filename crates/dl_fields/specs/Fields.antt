@@ -19,12 +19,12 @@ abbrev pub Fits : Width → ℕ → Type 0
 Fits w n = n < 256 ^ byte_len w
 
 -- bytes behind their length, which is a number of a width
-abbrev pub counted_from : Width → List ℕ → Result (List ℕ × List ℕ) Fault
-counted_from w = map_at (λ x. x.1) (then_at (number_from w) run_from)
+abbrev pub counted_field_from : Width → List ℕ → Result (List ℕ × List ℕ) Fault
+counted_field_from w = map_at (λ x. x.1) (then_at (number_from w) run_from)
 
 -- the spelling of bytes behind their length
-abbrev pub counted : Width → List ℕ → List ℕ
-counted w run = field w (length run) ++ run
+abbrev pub counted_field : Width → List ℕ → List ℕ
+counted_field w run = field w (length run) ++ run
 
 -- the length of the bytes fits a width
 abbrev pub IsCounted : Width → List ℕ → Type 0

@@ -1,10 +1,11 @@
 -- The form of paths and of the names in them.
-use Rattle.std.specs.Prelude.{◌≡◌, ℕ, suc, ◌<◌, ◌≤◌, nat_le, nat_lt, Bool, true, not, ◌==◌, ◌&&◌, ◌||◌, if◌then◌else◌, List, [], ◌∷◌, length, Option, Some, None, Result}
+use Rattle.std.specs.Prelude.{◌≡◌, ℕ, suc, ◌<◌, ◌≤◌, nat_le, nat_lt, Bool, true, not, ◌==◌, ◌&&◌, ◌||◌}
+use Rattle.std.specs.Prelude.{if◌then◌else◌, List, [], ◌∷◌, length, Option, Some, None, Result}
 use Rattle.std.specs.List.{flat_map, AllByRecursion, suffix_len}
 use Rattle.std.specs.Int.{w16}
 use Rattle.dl_fields.specs.declared.fault.Fault.{Fault}
-use Rattle.dl_fields.specs.Readers.{passing, flawless}
-use Rattle.dl_fields.specs.Fields.{counted_from}
+use Rattle.dl_fields.specs.Readers.{with_test, without_flaw}
+use Rattle.dl_fields.specs.Fields.{counted_field_from}
 
 -- the most bytes of a part of a path
 abbrev pub max_part : ℕ
@@ -29,13 +30,13 @@ pub record IsPart (part : List ℕ) : Type 0 where
   pub bytes : AllByRecursion (λ c. is_part_byte c ≡ true) part
 
 -- each part behind a `/`
-abbrev pub joined : List (List ℕ) → List ℕ
-joined parts = flat_map (λ part. 47 ∷ part) parts
+abbrev pub with_slashes : List (List ℕ) → List ℕ
+with_slashes parts = flat_map (λ part. 47 ∷ part) parts
 
 -- the path of these parts; without one it is the root's, `/`
 abbrev pub path_of_parts : List (List ℕ) → List ℕ
 path_of_parts [] = 47 ∷ []
-path_of_parts (part ∷ parts) = joined (part ∷ parts)
+path_of_parts (part ∷ parts) = with_slashes (part ∷ parts)
 
 -- a path: the root's, or parts
 abbrev pub IsPath : List ℕ → Type 0
@@ -61,15 +62,15 @@ part_flaw n (c ∷ cs) = if is_part_byte c && nat_lt n max_part then part_flaw (
 
 -- bytes behind their length, at least one
 abbrev pub some_from : List ℕ → Result (List ℕ × List ℕ) Fault
-some_from = passing (λ run. not (length run == 0)) (counted_from w16)
+some_from = with_test (λ run. not (length run == 0)) (counted_field_from w16)
 
 -- a path behind its length
 abbrev pub path_from : List ℕ → Result (List ℕ × List ℕ) Fault
-path_from = flawless path_flaw some_from
+path_from = without_flaw path_flaw some_from
 
 -- a name of a listing behind its length
 abbrev pub name_from : List ℕ → Result (List ℕ × List ℕ) Fault
-name_from = flawless (part_flaw 0) some_from
+name_from = without_flaw (part_flaw 0) some_from
 
 -- a part has no slash
 abbrev pub NoSlash : List ℕ → Type 0
@@ -86,7 +87,7 @@ is_stem path = nat_le (last_length path) max_stem_part && nat_le (length path) m
 
 -- such a path behind its length; another one is bad at the first byte of its length
 abbrev pub stem_from : List ℕ → Result (List ℕ × List ℕ) Fault
-stem_from = passing is_stem path_from
+stem_from = with_test is_stem path_from
 
 -- the paths and the names that have a spelling: their length fits 16 bits
 abbrev pub IsPathField : List ℕ → Type 0

@@ -13,29 +13,29 @@ abbrev pub nothing_from : {A : Type 0} → A → List ℕ → Result (A × List 
 nothing_from a bytes = Ok (a, bytes)
 
 -- a field that passes a test; another is bad at its first byte
-abbrev pub passed : {A : Type 0} → (A → Bool) → ℕ → A × List ℕ → Result (A × List ℕ) Fault
-passed test size x = if test x.0 then Ok x else Err (Bad size)
+abbrev pub field_with_test : {A : Type 0} → (A → Bool) → ℕ → A × List ℕ → Result (A × List ℕ) Fault
+field_with_test test size x = if test x.0 then Ok x else Err (Bad size)
 
 -- the field that is read, where it passes the test
-abbrev pub passing : {A : Type 0} → (A → Bool) → (List ℕ → Result (A × List ℕ) Fault) → List ℕ → Result (A × List ℕ) Fault
-passing test read bytes = read bytes >>= passed test (length bytes)
+abbrev pub with_test : {A : Type 0} → (A → Bool) → (List ℕ → Result (A × List ℕ) Fault) → List ℕ → Result (A × List ℕ) Fault
+with_test test read bytes = read bytes >>= field_with_test test (length bytes)
 
 -- a field without a flaw; a flaw is bad so many bytes before the field's end
-abbrev pub judged : {A : Type 0} → Option ℕ → A × List ℕ → Result (A × List ℕ) Fault
-judged None x = Ok x
-judged (Some back) x = Err (Bad (length x.1 + back))
+abbrev pub field_without_flaw : {A : Type 0} → Option ℕ → A × List ℕ → Result (A × List ℕ) Fault
+field_without_flaw None x = Ok x
+field_without_flaw (Some back) x = Err (Bad (length x.1 + back))
 
 -- the field that is read, where it has no flaw
-abbrev pub flawless : {A : Type 0} → (A → Option ℕ) → (List ℕ → Result (A × List ℕ) Fault) → List ℕ → Result (A × List ℕ) Fault
-flawless flaw read bytes = read bytes >>= λ x. judged (flaw x.0) x
+abbrev pub without_flaw : {A : Type 0} → (A → Option ℕ) → (List ℕ → Result (A × List ℕ) Fault) → List ℕ → Result (A × List ℕ) Fault
+without_flaw flaw read bytes = read bytes >>= λ x. field_without_flaw (flaw x.0) x
 
 -- a field behind which nothing is left
-abbrev pub ended : {A : Type 0} → A × List ℕ → Result A Fault
-ended x = if length x.1 == 0 then Ok x.0 else Err (Long (length x.1))
+abbrev pub whole_field : {A : Type 0} → A × List ℕ → Result A Fault
+whole_field x = if length x.1 == 0 then Ok x.0 else Err (Long (length x.1))
 
 -- a field that is all of the bytes
 abbrev pub whole_from : {A : Type 0} → (List ℕ → Result (A × List ℕ) Fault) → List ℕ → Result A Fault
-whole_from read bytes = read bytes >>= ended
+whole_from read bytes = read bytes >>= whole_field
 
 -- the fault of the bytes that a stop names; want of memory names none
 abbrev pub fault_of : Stop → Option Fault

@@ -1,6 +1,7 @@
 ghost use Rattle.std.specs.Prelude.{◌≡◌, ◌≤◌, ◌+◌, length, IfSome, IfOk};
 ghost use Rattle.dl_fields.specs.Readers.{Reads};
-ghost use Rattle.dl_fields.specs.Paths.{is_part_byte, flaw_behind, path_flaw, part_flaw, some_from, path_from, name_from, last_length, is_stem, stem_from};
+ghost use Rattle.dl_fields.specs.Paths.{is_part_byte, flaw_behind, path_flaw, part_flaw, some_from};
+ghost use Rattle.dl_fields.specs.Paths.{path_from, name_from, last_length, is_stem, stem_from};
 
 use crate::fault::Fault;
 use crate::run::read_run_u16;

@@ -1,6 +1,6 @@
 ghost use Rattle.std.specs.Prelude.{◌≡◌, ◌<◌, length};
 ghost use Rattle.std.specs.Int.{w16, w32};
-ghost use Rattle.dl_fields.specs.Fields.{counted};
+ghost use Rattle.dl_fields.specs.Fields.{counted_field};
 ghost use Rattle.dl_fields.specs.Outputs.{Puts};
 
 use byteorder::{BigEndian, ByteOrder};
@@ -11,7 +11,7 @@ use std::alloc::Global;
 #[tactic(auto, unfolding(dl_codec::specs::Fields::field))]
 pub fn put_run_u16(_alloc: Global, out: &mut Vec<u8>, run: &[u8]) -> Result<(), NoMemory>
     requires { length run.now < 65536 }
-    ensures { Puts out.old.items out.new.items (counted w16 run.now) result }
+    ensures { Puts out.old.items out.new.items (counted_field w16 run.now) result }
 {
     let mut size = [0u8; 2];
     BigEndian::write_u16(&mut size, run.len() as u16);
@@ -25,7 +25,7 @@ pub fn put_run_u16(_alloc: Global, out: &mut Vec<u8>, run: &[u8]) -> Result<(), 
 #[tactic(auto, unfolding(dl_codec::specs::Fields::field))]
 pub fn put_run_u32(_alloc: Global, out: &mut Vec<u8>, run: &[u8]) -> Result<(), NoMemory>
     requires { length run.now < 4294967296 }
-    ensures { Puts out.old.items out.new.items (counted w32 run.now) result }
+    ensures { Puts out.old.items out.new.items (counted_field w32 run.now) result }
 {
     let mut size = [0u8; 4];
     BigEndian::write_u32(&mut size, run.len() as u32);

@@ -11,12 +11,15 @@ use Rattle.dl_fields.proofs.DigitLemmas.{same_digits}
 abbrev pub behind : ℕ → List ℕ → List ℕ
 behind n name = take (length name - n) (drop n name)
 
+-- What stands behind the first bytes is the rest.
 behind_is : (n : ℕ) (name : List ℕ) → behind n name ≡ drop n name
 behind_is n name = take_rest name n
 
+-- Ten digits spell one number.
 same_number : (text : List ℕ) (k n : ℕ) → HasTenDigits k → text ≡ digits 10 k → HasTenDigits n → text ≡ digits 10 n → k ≡ n
 same_number text k n a e b f = same_digits 10 k n a b (sym e ∙ f)
 
+-- Where a search for ten digits behind two bytes has this result, a member's name gives that member.
 pub member_only : (name : List ℕ) (result : Option ℕ)
     → MatchOption result ((k : ℕ) → behind 2 name ≡ digits 10 k → ⊥) (λ k. HasTenDigits k × (behind 2 name ≡ digits 10 k)) → (n : ℕ) → HasTenDigits n
     → name ≡ member_name n → result ≡ Some n
@@ -30,6 +33,7 @@ zero_only name k ten text zero (Progress n) valid spelt = let same : k ≡ n =
 zero_only name k ten text zero (Completed n) valid spelt = let same : k ≡ n =
     same_number (drop 1 name) k n ten (sym (behind_is 1 name) ∙ text) valid.1 (ap (drop 1) spelt) in omega (arith, valid.0)
 
+-- A name that begins with `p` is that of the segment in progress with the number that its digits spell.
 pub progress_only : (name : List ℕ) (k : ℕ) → HasTenDigits k → behind 1 name ≡ digits 10 k → get_or name 0 0 ≡ 112 → (s : SegmentName)
     → IsSegmentName s → name ≡ segment_name s → Progress k ≡ s
 progress_only name k ten text letter (Progress n) valid spelt =
@@ -37,6 +41,7 @@ progress_only name k ten text letter (Progress n) valid spelt =
 progress_only name k ten text letter (Completed n) valid spelt = let other : get_or name 0 0 ≡ 99 = ap (λ (t : List ℕ). get_or t 0 0) spelt in
     absurd (omega (arith, other, letter))
 
+-- A name that begins with `c` is that of the completed segment with the number that its digits spell.
 pub completed_only : (name : List ℕ) (k : ℕ) → HasTenDigits k → behind 1 name ≡ digits 10 k → get_or name 0 0 ≡ 99 → (s : SegmentName)
     → IsSegmentName s → name ≡ segment_name s → Completed k ≡ s
 completed_only name k ten text letter (Completed n) valid spelt =

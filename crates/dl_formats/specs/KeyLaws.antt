@@ -5,7 +5,8 @@ use Rattle.std.specs.Cmp.Lexicographic.{slice_cmp}
 use Rattle.std.specs.Ordering.{nat_cmp}
 use Rattle.dl_fields.specs.Paths.{IsPath, IsStemField}
 use Rattle.dl_fields.specs.Digits.{digits}
-use Rattle.dl_formats.specs.Keys.{Key, Ledger, Member, path_of, ledger_stem, member_stem, is_key, NoSlash, IsKey, IsName, IsNodeKey, parent_key, name_of, front_of}
+use Rattle.dl_formats.specs.Keys.{Key, Ledger, Member, path_of, ledger_stem, member_stem, is_key}
+use Rattle.dl_formats.specs.Keys.{NoSlash, IsKey, IsName, IsNodeKey, parent_key, name_of, front_of}
 
 -- different keys have different paths
 abbrev pub KeysHavePathsOfTheirOwn : Type 0

@@ -1,7 +1,7 @@
 -- The nodes of the metadata tree that the log uses, and their paths.
 use Rattle.std.specs.Prelude.{◌≡◌, ℕ, Bool, true, false, ◌&&◌, ◌==◌, List, [], ◌∷◌, ◌++◌, Option, Some, None, codes, bytes_eq}
 use Rattle.dl_types.specs.Names.{name_fault}
-use Rattle.dl_fields.specs.Paths.{joined}
+use Rattle.dl_fields.specs.Paths.{with_slashes}
 pub use Rattle.dl_fields.specs.Paths.{NoSlash}
 use Rattle.dl_fields.specs.Digits.{digits, HasTenDigits}
 
@@ -39,15 +39,15 @@ parts_of (Completed s k) = codes "streams" ∷ s ∷ codes "segs" ∷ (codes "c"
 
 -- the path of a node
 unfoldable pub path_of : Key → List ℕ
-path_of k = joined (parts_of k)
+path_of k = with_slashes (parts_of k)
 
 -- the path to which the ten digits of a ledger are added
 unfoldable pub ledger_stem : List ℕ
-ledger_stem = joined (codes "ledgers" ∷ codes "L" ∷ [])
+ledger_stem = with_slashes (codes "ledgers" ∷ codes "L" ∷ [])
 
 -- the path to which the ten digits of a member of a stream's lock are added
 unfoldable pub member_stem : List ℕ → List ℕ
-member_stem s = joined (codes "streams" ∷ s ∷ codes "lock" ∷ codes "m-" ∷ [])
+member_stem s = with_slashes (codes "streams" ∷ s ∷ codes "lock" ∷ codes "m-" ∷ [])
 
 -- whether two keys are the same
 abbrev pub is_key : Key → Key → Bool

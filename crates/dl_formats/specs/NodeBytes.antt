@@ -30,18 +30,18 @@ abbrev pub max_u64 : ℕ
 max_u64 = 18446744073709551615
 
 -- the bytes of a node: its version, which is 1, and its fields
-abbrev pub versioned : List ℕ → List ℕ
-versioned fields = field w8 1 ++ fields
+abbrev pub with_version : List ℕ → List ℕ
+with_version fields = field w8 1 ++ fields
 
--- the configuration: each of the four numbers is 1 to 16, and none is above the one before it
+-- the fields of a configuration
 abbrev pub conf_fields : Conf → List ℕ
 conf_fields c = field w8 c.b ++ (field w8 c.e ++ (field w8 c.qw ++ field w8 c.qa))
 
 -- the spelling of a configuration
 abbrev pub conf_bytes : Conf → List ℕ
-conf_bytes c = versioned (conf_fields c)
+conf_bytes c = with_version (conf_fields c)
 
--- the configurations that have a spelling
+-- the configurations that have a spelling: each of the four numbers is 1 to 16, and none is above the one before it
 abbrev pub IsConf : Conf → Type 0
 IsConf c = IsBetween 1 16 c.b × (IsBetween 1 c.b c.e × (IsBetween 1 c.e c.qw × IsBetween 1 c.qw c.qa))
 
@@ -71,13 +71,13 @@ fields_of m = record { state = m.state; e = m.q.e; qw = m.q.qw; qa = m.q.qa; cou
 
 -- the spelling of a ledger
 abbrev pub ledger_bytes : LedgerMeta → List ℕ
-ledger_bytes m = versioned (ledger_fields (fields_of m))
+ledger_bytes m = with_version (ledger_fields (fields_of m))
 
 -- a ledger that has a spelling: its quorum keeps its own rule
 abbrev pub IsLedgerMeta : LedgerMeta → Type 0
 IsLedgerMeta m = IsBetween 0 (most_count m.state) m.count
 
--- a segment: its number is not 0, and has ten digits like that of its ledger
+-- the byte of a segment's kind: in progress, or completed
 abbrev pub segment_kind : SegmentMeta → ℕ
 segment_kind (InProgress segment ledger) = 1
 segment_kind (Completed segment ledger entries rows last) = 2
@@ -94,35 +94,35 @@ segment_fields m = field w8 (segment_kind m) ++ segment_rest m
 
 -- the spelling of a segment
 abbrev pub segment_bytes : SegmentMeta → List ℕ
-segment_bytes m = versioned (segment_fields m)
+segment_bytes m = with_version (segment_fields m)
 
--- the segments that have a spelling
+-- the segments that have a spelling: the number is not 0, and has ten digits like that of the ledger
 abbrev pub IsSegmentMeta : SegmentMeta → Type 0
 IsSegmentMeta (InProgress segment ledger) = IsBetween 1 ten_nines segment × IsBetween 0 ten_nines ledger
 IsSegmentMeta (Completed segment ledger entries rows last) =
     IsBetween 1 ten_nines segment × (IsBetween 0 ten_nines ledger × (Fits w64 entries × (Fits w64 rows × IsBetween 0 MAX_TXID last)))
 
--- the greatest segment of a stream, and its greatest transaction id; both are 0 at first
+-- the fields of a greatest segment: its number, and the stream's greatest transaction id; both are 0 at first
 abbrev pub maxseq_fields : MaxSeq → List ℕ
 maxseq_fields m = field w64 m.segment ++ field w64 m.last
 
 -- the spelling of a greatest segment
 abbrev pub maxseq_bytes : MaxSeq → List ℕ
-maxseq_bytes m = versioned (maxseq_fields m)
+maxseq_bytes m = with_version (maxseq_fields m)
 
 -- the greatest segments that have a spelling
 abbrev pub IsMaxSeq : MaxSeq → Type 0
 IsMaxSeq m = IsBetween 0 ten_nines m.segment × IsBetween 0 MAX_TXID m.last
 
--- the place before which a stream is cut off: its segment is not 0
+-- the fields of a cut: the place before which a stream is cut off
 abbrev pub cut_fields : Cut → List ℕ
 cut_fields c = field w64 c.point.segment ++ (field w64 c.point.entry ++ field w32 c.point.slot)
 
 -- the spelling of a cut
 abbrev pub cut_bytes : Cut → List ℕ
-cut_bytes c = versioned (cut_fields c)
+cut_bytes c = with_version (cut_fields c)
 
--- the cuts that have a spelling
+-- the cuts that have a spelling: the segment is not 0
 abbrev pub IsCut : Cut → Type 0
 IsCut c = IsBetween 1 max_u64 c.point.segment × (Fits w64 c.point.entry × Fits w32 c.point.slot)
 
@@ -137,7 +137,7 @@ alloc_fields a = alloc_fields_of a.ledger
 
 -- the spelling of an allocation
 abbrev pub alloc_bytes : Alloc → List ℕ
-alloc_bytes a = versioned (alloc_fields a)
+alloc_bytes a = with_version (alloc_fields a)
 
 -- the ledgers that an allocation may name
 abbrev pub IsAllocated : Option ℕ → Type 0

@@ -5,7 +5,7 @@ use Rattle.dl_types.specs.Places.{place}
 use Rattle.dl_fields.specs.declared.fault.Fault.{Fault}
 use Rattle.dl_fields.specs.declared.fault.Fault.TheVariants as fields
 pub use Rattle.dl_fields.specs.Readers.{Reads}
-use Rattle.dl_fields.specs.Readers.{then_at, map_at, passing, whole_from}
+use Rattle.dl_fields.specs.Readers.{then_at, map_at, with_test, whole_from}
 use Rattle.dl_fields.specs.Fields.{number_from}
 use Rattle.dl_formats.specs.declared.allocation.Alloc.{Alloc}
 use Rattle.dl_formats.specs.declared.conf.Conf.{Conf}
@@ -23,15 +23,15 @@ use Rattle.dl_types.specs.declared.txid.TheConstants.{MAX_TXID}
 
 -- a number of a width within bounds; another one is bad at its first byte
 abbrev pub between_from : Width → ℕ → ℕ → List ℕ → Result (ℕ × List ℕ) Fault
-between_from w low high = passing (λ n. nat_le low n && nat_le n high) (number_from w)
+between_from w low high = with_test (λ n. nat_le low n && nat_le n high) (number_from w)
 
 -- fields behind the version, which is 1
-abbrev pub versioned_from : {A : Type 0} → (List ℕ → Result (A × List ℕ) Fault) → List ℕ → Result (A × List ℕ) Fault
-versioned_from read = map_at (λ (version, fields). fields) (then_at (between_from w8 1 1) (λ version. read))
+abbrev pub node_fields_from : {A : Type 0} → (List ℕ → Result (A × List ℕ) Fault) → List ℕ → Result (A × List ℕ) Fault
+node_fields_from read = map_at (λ (version, fields). fields) (then_at (between_from w8 1 1) (λ version. read))
 
 -- a node: a version, fields, and nothing behind them
 abbrev pub node_from : {A : Type 0} → (List ℕ → Result (A × List ℕ) Fault) → List ℕ → Result A Fault
-node_from read = whole_from (versioned_from read)
+node_from read = whole_from (node_fields_from read)
 
 -- A fault with its place among so many bytes, from the first one on. The first byte is the version.
 abbrev pub fault_at : ℕ → Fault → MetaBytesFault
@@ -54,7 +54,8 @@ SpellsNone {A} Valid print bytes = (a : A) → Valid a → bytes ≡ print a →
 
 -- What a decoder answers: what is found is valid, and the bytes are its one spelling; what the bytes spell is the answer;
 -- and a fault is the first in the order of the bytes, and then they spell nothing valid.
-pub record Decodes {A B : Type 0} (Valid : A → Type 0) (print : A → List ℕ) (read : List ℕ → Result B MetaBytesFault) (bytes : List ℕ) (result : Result A MetaBytesFault) : Type 0 where
+pub record Decodes {A B : Type 0} (Valid : A → Type 0) (print : A → List ℕ) (read : List ℕ → Result B MetaBytesFault)
+    (bytes : List ℕ) (result : Result A MetaBytesFault) : Type 0 where
   pub found : IfOk result (λ a. Valid a × (bytes ≡ print a))
   pub only : (a : A) → Valid a → bytes ≡ print a → result ≡ Ok a
   pub refused : IfErr result (λ fault. (read bytes ≡ Err fault) × SpellsNone Valid print bytes)
@@ -124,9 +125,9 @@ abbrev pub cut_from : List ℕ → Result (Cut × List ℕ) Fault
 cut_from = map_at cut_of
     (then_at (between_from w64 1 max_u64) (λ segment. then_at (number_from w64) (λ entry. number_from w32)))
 
--- what a flag and a number say of a ledger: without the flag there is none, and the number is 0
-abbrev pub most_allocated : ℕ → ℕ
-most_allocated flag = if flag == 0 then 0 else ten_nines
+-- the greatest number of a ledger behind a flag: without the flag there is no ledger, and the number is 0
+abbrev pub most_ledger : ℕ → ℕ
+most_ledger flag = if flag == 0 then 0 else ten_nines
 
 -- the allocation of a flag and a number
 abbrev pub alloc_of : ℕ × ℕ → Alloc
@@ -134,7 +135,7 @@ alloc_of = λ (flag, ledger). record { ledger = if flag == 0 then None else Some
 
 -- the fields of an allocation
 abbrev pub alloc_from : List ℕ → Result (Alloc × List ℕ) Fault
-alloc_from = map_at alloc_of (then_at (between_from w8 0 1) (λ flag. between_from w64 0 (most_allocated flag)))
+alloc_from = map_at alloc_of (then_at (between_from w8 0 1) (λ flag. between_from w64 0 (most_ledger flag)))
 
 -- the value that all bytes of a node spell, or the first fault with its place
 

@@ -3,8 +3,12 @@
 
 ghost use Rattle.std.specs.Prelude.{◌≡◌};
 ghost use Rattle.dl_types.specs.Quorums.{IsQuorum};
-ghost use Rattle.dl_formats.specs.NodeBytes.{conf_bytes, IsConf, most_count, fields_of, ledger_bytes, IsLedgerMeta, segment_bytes, IsSegmentMeta, maxseq_bytes, IsMaxSeq, cut_bytes, IsCut, alloc_bytes, IsAlloc};
-ghost use Rattle.dl_formats.specs.Reading.{Reads, Decodes, conf_from, conf_at, state_from, ledger_from, ledger_at, in_progress_from, completed_from, kind_from, segment_from, segment_at, maxseq_from, maxseq_at, cut_from, cut_at, alloc_from, alloc_at};
+ghost use Rattle.dl_formats.specs.NodeBytes.{conf_bytes, IsConf, most_count, fields_of, ledger_bytes};
+ghost use Rattle.dl_formats.specs.NodeBytes.{IsLedgerMeta, segment_bytes, IsSegmentMeta, maxseq_bytes};
+ghost use Rattle.dl_formats.specs.NodeBytes.{IsMaxSeq, cut_bytes, IsCut, alloc_bytes, IsAlloc};
+ghost use Rattle.dl_formats.specs.Reading.{Reads, Decodes, conf_from, conf_at, state_from, ledger_from, ledger_at};
+ghost use Rattle.dl_formats.specs.Reading.{in_progress_from, completed_from, kind_from, segment_from, segment_at};
+ghost use Rattle.dl_formats.specs.Reading.{maxseq_from, maxseq_at, cut_from, cut_at, alloc_from, alloc_at};
 
 use crate::allocation::Alloc;
 use crate::conf::Conf;

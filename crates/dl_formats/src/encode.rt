@@ -3,7 +3,9 @@
 ghost use Rattle.std.specs.Prelude.{◌≡◌, ◌++◌, IfOk};
 ghost use Rattle.std.specs.Int.{w8, w64};
 ghost use Rattle.dl_codec.specs.Fields.{field};
-ghost use Rattle.dl_formats.specs.NodeBytes.{state_code, conf_bytes, IsConf, ledger_bytes, IsLedgerMeta, segment_bytes, IsSegmentMeta, maxseq_bytes, IsMaxSeq, cut_bytes, IsCut, alloc_bytes, IsAlloc};
+ghost use Rattle.dl_formats.specs.NodeBytes.{state_code, conf_bytes, IsConf, ledger_bytes};
+ghost use Rattle.dl_formats.specs.NodeBytes.{IsLedgerMeta, segment_bytes, IsSegmentMeta, maxseq_bytes};
+ghost use Rattle.dl_formats.specs.NodeBytes.{IsMaxSeq, cut_bytes, IsCut, alloc_bytes, IsAlloc};
 
 use crate::allocation::Alloc;
 use crate::conf::Conf;

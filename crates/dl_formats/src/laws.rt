@@ -1,6 +1,7 @@
 //! What holds of the paths of nodes, for all keys: laws on their definitions, with no code.
 
-ghost use Rattle.dl_formats.specs.KeyLaws.{KeysHavePathsOfTheirOwn, KeysAreTold, InsertIsByKey, RemoveIsByKey, PathsGoByParents, PathsHaveTheirForm};
+ghost use Rattle.dl_formats.specs.KeyLaws.{KeysHavePathsOfTheirOwn, KeysAreTold, InsertIsByKey};
+ghost use Rattle.dl_formats.specs.KeyLaws.{RemoveIsByKey, PathsGoByParents, PathsHaveTheirForm};
 
 /// Different keys have different paths, provided that their numbers have ten digits and their names no slash.
 pub fn keys_have_paths_of_their_own()

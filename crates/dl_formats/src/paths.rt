@@ -2,7 +2,8 @@
 
 ghost use Rattle.std.specs.Prelude.{◌≡◌, ◌≤◌, ◌++◌, IfOk};
 ghost use Rattle.dl_fields.specs.Digits.{digits};
-ghost use Rattle.dl_formats.specs.Keys.{Conf, Ledger, Stream, MaxSeq, Cut, Alloc, Locks, Segs, Progress, Completed, path_of, ledger_stem, member_stem};
+ghost use Rattle.dl_formats.specs.Keys.{Conf, Ledger, Stream, MaxSeq, Cut, Alloc, Locks, Segs};
+ghost use Rattle.dl_formats.specs.Keys.{Progress, Completed, path_of, ledger_stem, member_stem};
 
 use dl_fields::digits::put_digits;
 use dl_types::memory::NoMemory;

@@ -15,7 +15,7 @@ use Rattle.dl_tree.specs.Laws.{set_node}
 use Rattle.dl_tree.specs.Trees.{Nodes, outcome_of, child_names, is_counted, made_path, parent_after, new_node}
 use Rattle.dl_tree.proofs.PartLemmas.{parts_found}
 use Rattle.dl_formats.specs.Keys.{Key, Conf, Streams, Ledgers, Ledger, Stream, MaxSeq, Cut, Alloc, Locks, Member, Segs, Progress, Completed, path_of, parts_of, ledger_stem, member_stem, is_key, NoSlash, IsKey, parent_key, name_of, front_of}
-use Rattle.dl_formats.proofs.KeyLemmas.{insert_by_key, remove_by_key, keys_told, by_parents, joined_more}
+use Rattle.dl_formats.proofs.KeyLemmas.{insert_by_key, remove_by_key, keys_told, by_parents, with_slashes_more}
 use Rattle.dl_rules_stream.specs.Requests.{makes}
 use Rattle.dl_law_meta.specs.Keyed.{node, is_apart, OthersStay, lasting, ephemeral, counted, HasVersion, IsThere, IsParent, IsNew, IsSet, IsCounted, IsGone}
 use Rattle.dl_law_meta.proofs.Done.{set_done, create_done, delete_done, check_done}
@@ -77,12 +77,12 @@ parent_path k p h e = below_is p (path_of k) (name_of k) (by_parents.parent k �
 
 ledger_parent : parent_of ledger_stem ≡ path_of Ledgers
 unfolding ledger_stem path_of
-ledger_parent = below_is Ledgers ledger_stem (codes "L") (joined_more (parts_of Ledgers) (codes "L")) (λ e. absurd (omega (arith, e)), tt)
+ledger_parent = below_is Ledgers ledger_stem (codes "L") (with_slashes_more (parts_of Ledgers) (codes "L")) (λ e. absurd (omega (arith, e)), tt)
 
 member_parent : (s : List ℕ) → parent_of (member_stem s) ≡ path_of (Locks s)
 unfolding member_stem path_of
 member_parent s =
-    below_is (Locks s) (member_stem s) (codes "m-") (joined_more (parts_of (Locks s)) (codes "m-"))
+    below_is (Locks s) (member_stem s) (codes "m-") (with_slashes_more (parts_of (Locks s)) (codes "m-"))
     (λ e. absurd (omega (arith, e)), (λ e. absurd (omega (arith, e)), tt))
 
 -- ---- operations at keys

@@ -1,5 +1,6 @@
 -- A writer that hears a message stands for the view with it.
-use Rattle.std.proofs.Common.{◌≡◌, ℕ, ◌+◌, ◌-◌, ◌<◌, ◌≤◌, Bool, true, false, ◌&&◌, ◌||◌, ◌==◌, List, ◌∷◌, length, drop, get_or, slice_index, Option, Some, None, cond, refl, sym, ap, ◌∙◌, subst, arith, inl, inr, ◌⊎◌, lt-ltb, ap₂, add_assoc}
+use Rattle.std.proofs.Common.{◌≡◌, ℕ, ◌+◌, ◌-◌, ◌<◌, ◌≤◌, Bool, true, false, ◌&&◌, ◌||◌, ◌==◌, List, ◌∷◌, length, drop, get_or, slice_index}
+use Rattle.std.proofs.Common.{Option, Some, None, cond, refl, sym, ap, ◌∙◌, subst, arith, inl, inr, ◌⊎◌, lt-ltb, ap₂, add_assoc}
 use Rattle.std.proofs.lemmas.Bool.{cases_lt}
 use Rattle.std.proofs.lemmas.List.{get_or-drop}
 use Rattle.dl_quorum.specs.Sizes.{sizes_of}
@@ -8,7 +9,8 @@ use Rattle.dl_quorum.specs.Places.{holds}
 use Rattle.dl_quorum.specs.Pieces.{Pieces, acks, ensemble_members}
 use Rattle.dl_msg.specs.declared.msg.Msg.{Msg}
 use Rattle.dl_rules_ledger.specs.Leading.{leading_count}
-use Rattle.dl_rules_ledger.specs.Writers.{Hears, WriterView, with_call, sent_count, has_acked, has_ack_quorum, is_add_ok, is_add_fenced, or_else, confirmed_count}
+use Rattle.dl_rules_ledger.specs.Writers.{Hears, WriterView, with_call, sent_count, has_acked, has_ack_quorum}
+use Rattle.dl_rules_ledger.specs.Writers.{is_add_ok, is_add_fenced, or_else, confirmed_count}
 use Rattle.dl_rules_ledger.proofs.LeadingLemmas.{leading_count-is, leading_count-le, leading_count-below, leading_count-stops}
 use Rattle.dl_rules_ledger.proofs.WriterLaws.{acks-more, confirmed_is_greatest}
 use Rattle.dl_lwrite.specs.Answering.{Gains}

@@ -1,5 +1,6 @@
 -- A writer that sends an entry stands for the view with it.
-use Rattle.std.proofs.Common.{◌≡◌, ℕ, suc, ◌+◌, ◌<◌, ◌≤◌, Bool, true, false, cond, ◌&&◌, ◌==◌, nat_lt, nat_le, List, [], ◌∷◌, ◌++◌, map, length, get_or, slice_index, count_by, Some, None, refl, sym, ap, ◌∙◌, arith, inl, inr, ◌⊎◌, add-one, le-leb}
+use Rattle.std.proofs.Common.{◌≡◌, ℕ, suc, ◌+◌, ◌<◌, ◌≤◌, Bool, true, false, cond, ◌&&◌, ◌==◌, nat_lt, nat_le, List, [], ◌∷◌, ◌++◌, map}
+use Rattle.std.proofs.Common.{length, get_or, slice_index, count_by, Some, None, refl, sym, ap, ◌∙◌, arith, inl, inr, ◌⊎◌, add-one, le-leb}
 use Rattle.std.proofs.lemmas.Bool.{cases_lt, or_cases, and_parts, and_right, cond-false, ltb-true, lt-leb, false_from_ne_true, true≢false}
 use Rattle.std.proofs.lemmas.List.{get_or_append_left, get_or_at}
 use Rattle.dl_quorum.specs.Sizes.{sizes_of}
@@ -7,7 +8,8 @@ use Rattle.dl_quorum.specs.Places.{holds}
 use Rattle.dl_quorum.specs.Pieces.{Pieces, members, one_piece, ensemble_members}
 use Rattle.dl_quorum.proofs.CountLemmas.{count_by-cons}
 use Rattle.dl_rules_ledger.specs.declared.window.TheConstants.{WINDOW}
-use Rattle.dl_rules_ledger.specs.Writers.{WriterCall, Sends, Hears, WriterView, with_call, sent_count, has_acked, has_ack_quorum, is_add_ok, confirmed_count, Fence, FullWindow, stop_by, send_stop, add_to, add_letters}
+use Rattle.dl_rules_ledger.specs.Writers.{WriterCall, Sends, Hears, WriterView, with_call, sent_count, has_acked, has_ack_quorum}
+use Rattle.dl_rules_ledger.specs.Writers.{is_add_ok, confirmed_count, Fence, FullWindow, stop_by, send_stop, add_to, add_letters}
 use Rattle.dl_lwrite.specs.Facts.{WriterFacts}
 use Rattle.dl_lwrite.specs.Standing.{StandsFor}
 

@@ -4,7 +4,8 @@ use Rattle.dl_quorum.specs.Places.{holds}
 use Rattle.dl_quorum.specs.Sizes.{sizes_of}
 use Rattle.dl_quorum.specs.Pieces.{one_piece, ensemble_members}
 use Rattle.dl_msg.specs.declared.letters.Told.{Told}
-use Rattle.dl_rules_ledger.specs.Writers.{WriterView, Sends, with_call, sent_count, has_acked, confirmed_count, fence_bookie, Fence, FullWindow, send_stop, add_letters}
+use Rattle.dl_rules_ledger.specs.Writers.{WriterView, Sends, with_call, sent_count, has_acked, confirmed_count}
+use Rattle.dl_rules_ledger.specs.Writers.{fence_bookie, Fence, FullWindow, send_stop, add_letters}
 use Rattle.dl_lwrite.specs.Facts.{WriterFacts}
 use Rattle.dl_lwrite.specs.declared.send_fault.SendFault.{SendFault}
 use Rattle.dl_lwrite.specs.declared.send_fault.SendFault.TheVariants.{Fenced, WindowFull, NoMemory}

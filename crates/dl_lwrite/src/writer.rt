@@ -1,7 +1,8 @@
 ghost use Rattle.std.specs.Prelude.{◌≡◌, ◌+◌, ◌^◌, ◌<◌, OnErr, IfOk, IfErr};
 ghost use Rattle.dl_quorum.specs.Sizes.{sizes_of};
 ghost use Rattle.dl_quorum.specs.Pieces.{one_piece, ensemble_members};
-ghost use Rattle.dl_rules_ledger.specs.Writers.{WriterView, Hears, new_view, with_call, sent_count, confirmed_count, fence_bookie, closing_count};
+ghost use Rattle.dl_rules_ledger.specs.Writers.{WriterView, Hears, new_view, with_call, sent_count};
+ghost use Rattle.dl_rules_ledger.specs.Writers.{confirmed_count, fence_bookie, closing_count};
 ghost use Rattle.dl_lwrite.specs.Standing.{StandsFor, IsSending, Refuses};
 
 use crate::acknowledge::{acknowledge, advance, fenced_after};

@@ -22,7 +22,9 @@ use Rattle.dl_tree_msg.specs.declared.rule.PathRule.TheVariants.{All}
 use Rattle.dl_tree_msg.specs.Rules.{allows}
 use Rattle.dl_tree_msg.specs.Answers.{IsOutcome}
 use Rattle.dl_msg.specs.Messages.{was_run, reply_rest, reply_bytes, IsReply, msg_kind, msg_rest, msg_bytes, IsMsg}
-use Rattle.dl_msg.specs.Reading.{add_from, copy_from, ask_lac_from, ask_entry_from, add_ok_from, add_fenced_from, full_from, copy_ok_from, lac_is_from, entry_is_from, no_entry_from, meta_ask_from, reply_rest_from, reply_from, meta_reply_from, msg_rest_from, msg_from, msg_at, SpellsNone}
+use Rattle.dl_msg.specs.Reading.{add_from, copy_from, ask_lac_from, ask_entry_from, add_ok_from, add_fenced_from}
+use Rattle.dl_msg.specs.Reading.{full_from, copy_ok_from, lac_is_from, entry_is_from, no_entry_from, meta_ask_from}
+use Rattle.dl_msg.specs.Reading.{reply_rest_from, reply_from, meta_reply_from, msg_rest_from, msg_from, msg_at, SpellsNone}
 use Rattle.dl_fields.proofs.KindLemmas.{also_exact, nothing_exact, kinded_exact, flag_exact}
 use Rattle.dl_msg.proofs.KindLemmas.{msg_kind_exact, resource_exact}
 use Rattle.dl_tree_msg.proofs.RequestLemmas.{request_exact, all_allowed}

@@ -2,7 +2,7 @@
 use Rattle.std.specs.Prelude.{ℕ, Bool, true, false, List, [], ◌++◌}
 use Rattle.std.specs.Int.{w32, w64}
 use Rattle.dl_codec.specs.Fields.{field}
-use Rattle.dl_fields.specs.Fields.{Fits, counted, IsCounted}
+use Rattle.dl_fields.specs.Fields.{Fits, counted_field, IsCounted}
 use Rattle.dl_fields.specs.Codes.{code_byte}
 use Rattle.dl_msg.specs.declared.kind.MsgKind.{MsgKind}
 use Rattle.dl_msg.specs.declared.kind.MsgKind.TheVariants as kind
@@ -56,8 +56,8 @@ msg_kind (msg.MetaReply session number r) = kind.MetaReply
 
 -- a message behind its kind
 abbrev pub msg_rest : Msg → List ℕ
-msg_rest (msg.Add ledger entry count bytes) = field w64 ledger ++ (field w64 entry ++ (field w64 count ++ counted w32 bytes))
-msg_rest (msg.Copy tag ledger entry count bytes) = field w32 tag ++ (field w64 ledger ++ (field w64 entry ++ (field w64 count ++ counted w32 bytes)))
+msg_rest (msg.Add ledger entry count bytes) = field w64 ledger ++ (field w64 entry ++ (field w64 count ++ counted_field w32 bytes))
+msg_rest (msg.Copy tag ledger entry count bytes) = field w32 tag ++ (field w64 ledger ++ (field w64 entry ++ (field w64 count ++ counted_field w32 bytes)))
 msg_rest (msg.AskLac tag ledger fence) = field w32 tag ++ (field w64 ledger ++ flag_byte fence)
 msg_rest (msg.AskEntry tag ledger entry) = field w32 tag ++ (field w64 ledger ++ field w64 entry)
 msg_rest (msg.AddOk ledger entry) = field w64 ledger ++ field w64 entry
@@ -65,7 +65,7 @@ msg_rest (msg.AddFenced ledger entry) = field w64 ledger ++ field w64 entry
 msg_rest (msg.Full what ledger entry) = code_byte resource_code what ++ (field w64 ledger ++ field w64 entry)
 msg_rest (msg.CopyOk tag ledger entry) = field w32 tag ++ (field w64 ledger ++ field w64 entry)
 msg_rest (msg.LacIs tag ledger fenced count) = field w32 tag ++ (field w64 ledger ++ (flag_byte fenced ++ field w64 count))
-msg_rest (msg.EntryIs tag ledger entry bytes) = field w32 tag ++ (field w64 ledger ++ (field w64 entry ++ counted w32 bytes))
+msg_rest (msg.EntryIs tag ledger entry bytes) = field w32 tag ++ (field w64 ledger ++ (field w64 entry ++ counted_field w32 bytes))
 msg_rest (msg.NoEntry tag ledger entry fenced) = field w32 tag ++ (field w64 ledger ++ (field w64 entry ++ flag_byte fenced))
 msg_rest (msg.MetaAsk session number request) = field w64 session ++ (field w32 number ++ request_bytes request)
 msg_rest (msg.MetaReply session number r) = field w64 session ++ (field w32 number ++ reply_bytes r)

@@ -4,7 +4,7 @@ use Rattle.std.specs.Int.{w32, w64}
 use Rattle.dl_fields.specs.declared.fault.Fault.{Fault}
 use Rattle.dl_fields.specs.declared.fault.Fault.TheVariants as fields
 use Rattle.dl_fields.specs.Readers.{then_at, map_at, nothing_from, whole_from}
-use Rattle.dl_fields.specs.Fields.{number_from, counted_from}
+use Rattle.dl_fields.specs.Fields.{number_from, counted_field_from}
 use Rattle.dl_fields.specs.Codes.{code_from}
 use Rattle.dl_msg.specs.declared.fault.MsgFault.{MsgFault}
 use Rattle.dl_msg.specs.declared.fault.MsgFault.TheVariants as fault
@@ -25,12 +25,13 @@ use Rattle.dl_msg.specs.Messages.{msg_bytes, IsMsg}
 -- an addition
 abbrev pub add_from : List ℕ → Result (Msg × List ℕ) Fault
 add_from = map_at (λ (ledger, (entry, (count, bytes))). msg.Add ledger entry count bytes)
-    (then_at (number_from w64) (λ ledger. then_at (number_from w64) (λ entry. then_at (number_from w64) (λ count. counted_from w32))))
+    (then_at (number_from w64) (λ ledger. then_at (number_from w64) (λ entry. then_at (number_from w64) (λ count. counted_field_from w32))))
 
 -- a copy
 abbrev pub copy_from : List ℕ → Result (Msg × List ℕ) Fault
 copy_from = map_at (λ (tag, (ledger, (entry, (count, bytes)))). msg.Copy tag ledger entry count bytes)
-    (then_at (number_from w32) (λ tag. then_at (number_from w64) (λ ledger. then_at (number_from w64) (λ entry. then_at (number_from w64) (λ count. counted_from w32)))))
+    (then_at (number_from w32) (λ tag. then_at (number_from w64) (λ ledger. then_at (number_from w64) (λ entry.
+    then_at (number_from w64) (λ count. counted_field_from w32)))))
 
 -- a question for the confirmed count
 abbrev pub ask_lac_from : List ℕ → Result (Msg × List ℕ) Fault
@@ -42,12 +43,12 @@ abbrev pub place_from : List ℕ → Result ((ℕ × ℕ) × List ℕ) Fault
 place_from = then_at (number_from w64) (λ ledger. number_from w64)
 
 -- a tag, a ledger and an entry
-abbrev pub tagged_from : List ℕ → Result ((ℕ × (ℕ × ℕ)) × List ℕ) Fault
-tagged_from = then_at (number_from w32) (λ tag. place_from)
+abbrev pub tagged_place_from : List ℕ → Result ((ℕ × (ℕ × ℕ)) × List ℕ) Fault
+tagged_place_from = then_at (number_from w32) (λ tag. place_from)
 
 -- a question for an entry
 abbrev pub ask_entry_from : List ℕ → Result (Msg × List ℕ) Fault
-ask_entry_from = map_at (λ (tag, (ledger, entry)). msg.AskEntry tag ledger entry) tagged_from
+ask_entry_from = map_at (λ (tag, (ledger, entry)). msg.AskEntry tag ledger entry) tagged_place_from
 
 -- an entry that is stored
 abbrev pub add_ok_from : List ℕ → Result (Msg × List ℕ) Fault
@@ -64,7 +65,7 @@ full_from = map_at (λ (what, (ledger, entry)). msg.Full what ledger entry)
 
 -- a copy that is stored
 abbrev pub copy_ok_from : List ℕ → Result (Msg × List ℕ) Fault
-copy_ok_from = map_at (λ (tag, (ledger, entry)). msg.CopyOk tag ledger entry) tagged_from
+copy_ok_from = map_at (λ (tag, (ledger, entry)). msg.CopyOk tag ledger entry) tagged_place_from
 
 -- a confirmed count
 abbrev pub lac_is_from : List ℕ → Result (Msg × List ℕ) Fault
@@ -74,7 +75,7 @@ lac_is_from = map_at (λ (tag, (ledger, (fenced, count))). msg.LacIs tag ledger 
 -- an entry
 abbrev pub entry_is_from : List ℕ → Result (Msg × List ℕ) Fault
 entry_is_from = map_at (λ (tag, (ledger, (entry, bytes))). msg.EntryIs tag ledger entry bytes)
-    (then_at (number_from w32) (λ tag. then_at (number_from w64) (λ ledger. then_at (number_from w64) (λ entry. counted_from w32))))
+    (then_at (number_from w32) (λ tag. then_at (number_from w64) (λ ledger. then_at (number_from w64) (λ entry. counted_field_from w32))))
 
 -- a denial of an entry
 abbrev pub no_entry_from : List ℕ → Result (Msg × List ℕ) Fault

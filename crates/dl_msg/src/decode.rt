@@ -2,7 +2,10 @@ ghost use Rattle.std.specs.Prelude.{◌≡◌, Ok, IfOk, IfErr};
 ghost use Rattle.dl_fields.specs.Readers.{Gives, Reads, whole_from};
 ghost use Rattle.dl_msg.specs.declared.msg.Msg.{Msg};
 ghost use Rattle.dl_msg.specs.Messages.{msg_bytes, IsMsg};
-ghost use Rattle.dl_msg.specs.Reading.{add_from, copy_from, ask_lac_from, place_from, tagged_from, full_from, lac_is_from, entry_is_from, no_entry_from, meta_ask_from, reply_rest_from, reply_from, meta_reply_from, msg_rest_from, msg_from, fault_at, IsOrNoMemory, Refuses};
+ghost use Rattle.dl_msg.specs.Reading.{add_from, copy_from, ask_lac_from, place_from, tagged_place_from, full_from};
+ghost use Rattle.dl_msg.specs.Reading.{lac_is_from, entry_is_from, no_entry_from, meta_ask_from, reply_rest_from};
+ghost use Rattle.dl_msg.specs.Reading.{reply_from, meta_reply_from, msg_rest_from, msg_from, fault_at, IsOrNoMemory};
+ghost use Rattle.dl_msg.specs.Reading.{Refuses};
 
 use crate::fault::MsgFault;
 use crate::kind::MsgKind;
@@ -84,7 +87,7 @@ fn read_place(bytes: &[u8]) -> Result<((u64, u64), &[u8]), Fault>
 
 /// A tag, a ledger and an entry.
 fn read_tagged(bytes: &[u8]) -> Result<((u32, (u64, u64)), &[u8]), Fault>
-    ensures { Reads (λ x. (x.0, x.1.now)) result (tagged_from bytes.now) }
+    ensures { Reads (λ x. (x.0, x.1.now)) result (tagged_place_from bytes.now) }
 {
     let (tag, rest) = read_u32(bytes)?;
     let (place, rest) = read_place(rest)?;

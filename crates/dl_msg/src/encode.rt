@@ -1,7 +1,7 @@
 ghost use Rattle.std.specs.Prelude.{◌≡◌, ◌++◌, IfOk, OnOk};
 ghost use Rattle.std.specs.Int.{w32, w64};
 ghost use Rattle.dl_codec.specs.Fields.{field};
-ghost use Rattle.dl_fields.specs.Fields.{counted, IsCounted};
+ghost use Rattle.dl_fields.specs.Fields.{counted_field, IsCounted};
 ghost use Rattle.dl_fields.specs.Codes.{code_byte};
 ghost use Rattle.dl_msg.specs.Kinds.{resource_code};
 ghost use Rattle.dl_fields.specs.Flags.{flag_byte};
@@ -53,7 +53,7 @@ fn put_entry(
 ) -> Result<(), NoMemory>
     requires { IsCounted w32 bytes.now }
     ensures { OnOk result (out.new.items ≡ out.old.items ++ (field w64 ledger ++ (field w64 entry
-        ++ (field w64 count ++ counted w32 bytes.now)))) }
+        ++ (field w64 count ++ counted_field w32 bytes.now)))) }
 {
     put_place(alloc, out, ledger, entry)?;
     put_u64(alloc, out, count)?;

@@ -1,5 +1,6 @@
 -- The fields of a stored record: what is read stands there, and what stands there is read.
-use Rattle.std.proofs.Common.{◌≡◌, ℕ, ◌-◌, ◌+◌, ◌≤◌, ◌<◌, ◌^◌, Bool, true, false, cond, eqb, ltb, ◌&&◌, Option, List, ◌++◌, length, drop, Result, Ok, Err, refl, sym, ap, subst, ◌∙◌, arith}
+use Rattle.std.proofs.Common.{◌≡◌, ℕ, ◌-◌, ◌+◌, ◌≤◌, ◌<◌, ◌^◌, Bool, true, false, cond, eqb, ltb, ◌&&◌, Option}
+use Rattle.std.proofs.Common.{List, ◌++◌, length, drop, Result, Ok, Err, refl, sym, ap, subst, ◌∙◌, arith}
 use Rattle.std.specs.Int.{w32, w64}
 use Rattle.std.proofs.lemmas.Bool.{eqb-true, ltb-false, le-ltb}
 use Rattle.std.proofs.lemmas.Bool.Decides.{nat_tests}
@@ -14,8 +15,9 @@ use Rattle.dl_record.specs.declared.kind.Kind.{Kind}
 use Rattle.dl_record.specs.declared.kind.Kind.TheVariants as kinds
 use Rattle.dl_record.specs.declared.kind.Head.{Head}
 use Rattle.dl_record.specs.declared.kind.Behind.{Behind}
-use Rattle.dl_record.specs.Reading.{◌>>=◌, allowed, field_at, end_at, may_stand, may_bear, kind_of, may_hold, position_at, kind_at, txid_at, length_at, head_at}
-use Rattle.dl_record.proofs.Steps.{bind_ok, ok_is, chosen, allowed_ok, checked_ok, field_found, field_again, end_found, end_again}
+use Rattle.dl_record.specs.Reading.{◌>>=◌, value_if, field_at, end_at, may_stand, may_bear, kind_of}
+use Rattle.dl_record.specs.Reading.{may_hold, position_at, kind_at, txid_at, length_at, head_at}
+use Rattle.dl_record.proofs.Steps.{bind_ok, ok_is, chosen, value_if_ok, checked_ok, field_found, field_again, end_found, end_again}
 
 -- the flags of a kind
 abbrev pub kind_flags : Kind → ℕ
@@ -45,13 +47,16 @@ pub record HeadStands (alone : Bool) (before : Option Behind) (bytes : List ℕ)
 
 -- ---- flags
 
+-- a kind, as what a reading gives
 abbrev kinded : Kind → Result Kind EntryFlaw
 kinded kind = Ok kind
 
+-- A test of both parts says yes to each.
 both : (alone : Bool) (n : ℕ) → (eqb n 1 && alone) ≡ true → (n ≡ 1) × (alone ≡ true)
 both true n is = (grind (arith, nat_tests, is), refl)
 both false n is = absurd (grind (arith, nat_tests, is))
 
+-- Flags from which a kind was read are those of the kind, and it may stand here.
 kind_found : (alone : Bool) (at n : ℕ) (kind : Kind) → kind_of alone at n ≡ Ok kind → (n ≡ kind_flags kind) × FitsKind alone kind
 kind_found alone at n kind = plain (eqb n 0) refl
   where
@@ -72,6 +77,7 @@ kind_found alone at n kind = plain (eqb n 0) refl
     plain true is e = subst (λ (k : Kind). (n ≡ kind_flags k) × FitsKind alone k) (ok_is kinds.Plain kind e) (eqb-true n 0 is, tt)
     plain false is e = set (eqb n 4) refl e
 
+-- From the flags of a kind that may stand here that kind is read.
 kind_again : (alone : Bool) (at : ℕ) (kind : Kind) → FitsKind alone kind → kind_of alone at (kind_flags kind) ≡ Ok kind
 kind_again alone at kinds.Plain fits = refl
 kind_again alone at kinds.Control fits = rw fits refl
@@ -79,6 +85,7 @@ kind_again alone at kinds.Set fits = refl
 
 -- ---- the fields
 
+-- Bytes from which the fields of a record were read stand for them.
 pub head_found : (alone : Bool) (before : Option Behind) (bytes : List ℕ) (at : ℕ) (head : Head) → IsBytes bytes
     → head_at alone before bytes at ≡ Ok head → (size : ℕ) × HeadStands alone before bytes at head size
 unfolding head_at position_at kind_at txid_at length_at
@@ -100,13 +107,13 @@ head_found alone before bytes at head fits e =
     let b' = bind_ok (field_at w32 bytes (at + 4)) (λ n. kind_of alone (at + 4) n) b.0 b.1 in
     let b'' = kind_found alone (at + 4) b'.0 b.0 b'.2 in
     let d' = bind_ok (field_at w64 bytes (at + 8))
-    (λ n. cond (ltb MAX_TXID n) (Err (BadFlags (at + 8))) (allowed (may_bear before n) (TxidBack (at + 8)) n)) d.0 d.1 in
-    let d'' = chosen (ltb MAX_TXID d'.0) (BadFlags (at + 8)) (allowed (may_bear before d'.0) (TxidBack (at + 8)) d'.0) d.0 d'.2 in
-    let d3 = allowed_ok (may_bear before d'.0) (TxidBack (at + 8)) d'.0 d.0 d''.1 in
+    (λ n. cond (ltb MAX_TXID n) (Err (BadFlags (at + 8))) (value_if (may_bear before n) (TxidBack (at + 8)) n)) d.0 d.1 in
+    let d'' = chosen (ltb MAX_TXID d'.0) (BadFlags (at + 8)) (value_if (may_bear before d'.0) (TxidBack (at + 8)) d'.0) d.0 d'.2 in
+    let d3 = value_if_ok (may_bear before d'.0) (TxidBack (at + 8)) d'.0 d.0 d''.1 in
     let f' = bind_ok (field_at w32 bytes (at + 16))
-    (λ n. cond (ltb PAYLOAD_MAX n) (Err (TooLong (at + 16))) (allowed (may_hold b.0 n) (BadCount (at + 16)) n)) f.0 f.1 in
-    let f'' = chosen (ltb PAYLOAD_MAX f'.0) (TooLong (at + 16)) (allowed (may_hold b.0 f'.0) (BadCount (at + 16)) f'.0) f.0 f'.2 in
-    let f3 = allowed_ok (may_hold b.0 f'.0) (BadCount (at + 16)) f'.0 f.0 f''.1 in
+    (λ n. cond (ltb PAYLOAD_MAX n) (Err (TooLong (at + 16))) (value_if (may_hold b.0 n) (BadCount (at + 16)) n)) f.0 f.1 in
+    let f'' = chosen (ltb PAYLOAD_MAX f'.0) (TooLong (at + 16)) (value_if (may_hold b.0 f'.0) (BadCount (at + 16)) f'.0) f.0 f'.2 in
+    let f3 = value_if_ok (may_hold b.0 f'.0) (BadCount (at + 16)) f'.0 f.0 f''.1 in
     let pa = field_found w32 width_32 bytes at (at + 4) a.0 fits refl a'.0 in
     let pb = field_found w32 width_32 bytes (at + 4) (at + 8) b'.0 fits (omega arith) b'.1 in
     let pd = field_found w64 width_64 bytes (at + 8) (at + 16) d'.0 fits (omega arith) d'.1 in
@@ -134,6 +141,7 @@ pub record HeadReads (alone : Bool) (before : Option Behind) (bytes : List ℕ) 
   pub behind : drop (at + 20) bytes ≡ rest
   pub room : head.end ≤ length bytes
 
+-- From the spelling of the fields of a record those fields are read.
 pub head_again : (alone : Bool) (before : Option Behind) (bytes : List ℕ) (at : ℕ) (position txid size : ℕ) (kind : Kind) (rest : List ℕ)
     → position < 2 ^ 32 → may_stand before position ≡ true → FitsKind alone kind
     → txid ≤ MAX_TXID → may_bear before txid ≡ true → size ≤ PAYLOAD_MAX → may_hold kind size ≡ true → size ≤ length rest

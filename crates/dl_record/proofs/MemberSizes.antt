@@ -7,9 +7,11 @@ use Rattle.dl_codec.specs.Fields.{field}
 use Rattle.dl_codec.proofs.FieldLaws.{width_8, width_16, width_32}
 use Rattle.dl_record.specs.Grammar.{member_bytes, set_bytes}
 
+-- A member has its bytes and four for their length.
 pub length-member_bytes : (p : List ℕ) → length (member_bytes p) ≡ 4 + length p
 length-member_bytes p = omega (arith, length-append (field w32 (length p)) p, width_32.len (length p))
 
+-- A set has the bytes of its members and four before them.
 pub length-set_bytes : (ps : List (List ℕ)) → length (set_bytes ps) ≡ 4 + length (flat_map member_bytes ps)
 unfolding set_bytes
 length-set_bytes ps =
@@ -30,12 +32,14 @@ pub members_more : (ps : List (List ℕ)) (i : ℕ) (p : List ℕ) → i < lengt
 members_more ps i p lt is =
     ap (flat_map member_bytes) (drop_more ps i p lt) ∙ ap (λ (q : List ℕ). member_bytes q ++ flat_map member_bytes (drop (i + 1) ps)) (sym is)
 
+-- Members from a place on are one member and those behind it.
 pub size_more : (ps : List (List ℕ)) (i : ℕ) (p : List ℕ) → i < length ps → p ≡ get_or ps i p
     → length (flat_map member_bytes (drop i ps)) ≡ 4 + length p + length (flat_map member_bytes (drop (i + 1) ps))
 size_more ps i p lt is =
     let e = ap length (members_more ps i p lt is) in
     omega (arith, e, length-append (member_bytes p) (flat_map member_bytes (drop (i + 1) ps)), length-member_bytes p)
 
+-- Members from a place on have at most the bytes of them all.
 length-drop_le : (n : ℕ) (ps : List (List ℕ)) → length (flat_map member_bytes (drop n ps)) ≤ length (flat_map member_bytes ps)
 length-drop_le zero ps = omega arith
 length-drop_le (suc n) [] = omega arith

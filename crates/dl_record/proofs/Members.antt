@@ -1,5 +1,6 @@
 -- Record sets: what is read is spelt so, and what is spelt so is read.
-use Rattle.std.proofs.Common.{◌≡◌, ℕ, zero, suc, ◌-◌, ◌+◌, ◌≤◌, ◌<◌, ◌^◌, Bool, true, false, cond, eqb, leb, ◌&&◌, List, [], ◌∷◌, ◌++◌, length, drop, Result, Ok, Err, refl, sym, ap, subst, ◌∙◌, append_assoc, arith, length-append}
+use Rattle.std.proofs.Common.{◌≡◌, ℕ, zero, suc, ◌-◌, ◌+◌, ◌≤◌, ◌<◌, ◌^◌, Bool, true, false, cond, eqb, leb, ◌&&◌, List, [], ◌∷◌}
+use Rattle.std.proofs.Common.{◌++◌, length, drop, Result, Ok, Err, refl, sym, ap, subst, ◌∙◌, append_assoc, arith, length-append}
 use Rattle.std.specs.Prelude.{slice_range}
 use Rattle.std.specs.List.{flat_map}
 use Rattle.std.specs.Int.{w8, w16, w32}
@@ -18,10 +19,12 @@ use Rattle.dl_record.proofs.Steps.{bind_ok, ok_is, checked_ok, field_found, fiel
 
 -- ---- one member
 
+-- A member stands between two places.
 pub record Member (bytes : List ℕ) (at end : ℕ) : Type 0 where
   pub room : end ≤ length bytes
   pub stands : drop at bytes ≡ member_bytes (slice_range bytes (at + 4) end) ++ drop end bytes
 
+-- Bytes from which a member was read stand for it.
 member_found : (bytes : List ℕ) (at end : ℕ) → IsBytes bytes → member_end_at bytes at ≡ Ok end → Member bytes at end
 unfolding member_end_at
 member_found bytes at end fits e =
@@ -38,12 +41,14 @@ member_found bytes at end fits e =
           ∙ ap (λ (k : ℕ). (field w32 k ++ payload) ++ drop end bytes) len;
     }
 
+-- The member at a place is read, and the rest stands behind it.
 pub record MemberReads (bytes : List ℕ) (at : ℕ) (payload rest : List ℕ) : Type 0 where
   pub reads : member_end_at bytes at ≡ Ok (at + 4 + length payload)
   pub is : slice_range bytes (at + 4) (at + 4 + length payload) ≡ payload
   pub behind : drop (at + 4 + length payload) bytes ≡ rest
   pub room : at + 4 + length payload ≤ length bytes
 
+-- From the spelling of a member its end is read.
 pub member_again : (bytes : List ℕ) (at : ℕ) (payload rest : List ℕ) → length payload < 2 ^ 32 → drop at bytes ≡ member_bytes payload ++ rest
     → MemberReads bytes at payload rest
 unfolding member_end_at
@@ -66,10 +71,12 @@ ends_there {A} at bytes x y = go (eqb at (length bytes)) refl
     go true is e = (eqb-true at (length bytes) is, cc)
     go false is e = absurd cc
 
+-- So many members stand from a place on.
 pub record MembersFound (n : ℕ) (bytes : List ℕ) (at : ℕ) (ps : List (List ℕ)) : Type 0 where
   pub stands : drop at bytes ≡ flat_map member_bytes ps
   pub count : length ps ≡ n
 
+-- Bytes from which members were read are their spelling.
 members_found : (n : ℕ) (bytes : List ℕ) (at : ℕ) (ps : List (List ℕ)) → IsBytes bytes → members_at n bytes at ≡ Ok ps → MembersFound n bytes at ps
 unfolding members_at
 members_found zero bytes at ps fits e =
@@ -87,6 +94,7 @@ members_found (suc n) bytes at ps fits e =
       count = ap suc more.count;
     })
 
+-- From the spelling of members those members are read.
 members_again : (ps : List (List ℕ)) (bytes : List ℕ) (at : ℕ) → length (flat_map member_bytes ps) < 2 ^ 32 → at ≤ length bytes
     → drop at bytes ≡ flat_map member_bytes ps → members_at (length ps) bytes at ≡ Ok ps
 unfolding members_at
@@ -101,11 +109,13 @@ members_again (p ∷ ps) bytes at fits room e =
 
 -- ---- the set
 
+-- A set with these members stands from a place on.
 pub record SetFound (bytes : List ℕ) (at : ℕ) (ps : List (List ℕ)) : Type 0 where
   pub stands : drop at bytes ≡ set_bytes ps
   pub some : 1 ≤ length ps
   pub most : length ps ≤ MEMBERS_MAX
 
+-- Bytes from which a set was read are its spelling, and it has as many members as a set may have.
 pub set_found : (bytes : List ℕ) (at : ℕ) (ps : List (List ℕ)) → IsBytes bytes → set_at bytes at ≡ Ok ps → SetFound bytes at ps
 unfolding set_at set_count_at codec_at zero_at members_count_at set_bytes
 set_found bytes at ps fits e =
@@ -133,6 +143,7 @@ set_found bytes at ps fits e =
       most = grind (arith, nat_tests, passes, count);
     }
 
+-- From the spelling of a set its members are read.
 pub set_again : (bytes : List ℕ) (at : ℕ) (ps : List (List ℕ)) → 1 ≤ length ps → length ps ≤ MEMBERS_MAX → length (set_bytes ps) ≤ PAYLOAD_MAX
     → drop at bytes ≡ set_bytes ps → set_at bytes at ≡ Ok ps
 unfolding set_at set_count_at codec_at zero_at members_count_at set_bytes

@@ -1,5 +1,6 @@
 -- Stored records: what is read is spelt so, and what is spelt so is read.
-use Rattle.std.proofs.Common.{◌≡◌, ℕ, zero, suc, ◌-◌, ◌+◌, ◌≤◌, ◌<◌, ◌^◌, Bool, true, Option, Some, None, List, [], ◌∷◌, ◌++◌, length, take, drop, Ok, refl, sym, ap, subst, ◌∙◌, append_assoc, arith, length-append}
+use Rattle.std.proofs.Common.{◌≡◌, ℕ, zero, suc, ◌-◌, ◌+◌, ◌≤◌, ◌<◌, ◌^◌, Bool, true, Option, Some, None, List, [], ◌∷◌}
+use Rattle.std.proofs.Common.{◌++◌, length, take, drop, Ok, refl, sym, ap, subst, ◌∙◌, append_assoc, arith, length-append}
 use Rattle.std.specs.Prelude.{slice_range}
 use Rattle.std.specs.List.{flat_map}
 use Rattle.std.specs.Int.{w32, w64}
@@ -16,7 +17,7 @@ use Rattle.dl_record.specs.declared.stored.Stored.{Stored}
 use Rattle.dl_record.specs.declared.stored.Stored.TheVariants.{Plain, Control, Set}
 use Rattle.dl_record.specs.Stored.{position_of, txid_of}
 use Rattle.dl_record.specs.Grammar.{payload_bytes, flags_of, fields_and_payload, record_bytes, IsMembers, IsRecord, IsAllowed, Follows, AreRecords}
-use Rattle.dl_record.specs.Reading.{◌>>=◌, behind, may_stand, may_bear, may_hold, head_at, set_at, stored_at, content_at, record_at, records_at}
+use Rattle.dl_record.specs.Reading.{◌>>=◌, behind_of, may_stand, may_bear, may_hold, head_at, set_at, stored_at, content_at, record_at, records_at}
 use Rattle.dl_record.proofs.Steps.{IsBytes-take, bind_ok, ok_is, part_found, part_again}
 use Rattle.dl_record.proofs.Members.{set_found, set_again, ends_there}
 use Rattle.dl_record.proofs.Heads.{kind_flags, FitsKind, head_found, head_again}
@@ -32,6 +33,7 @@ pub record Content (alone : Bool) (kind : Kind) (n t : ℕ) (text : List ℕ) (r
   pub members : IsMembers r
   pub allowed : IsAllowed alone r
 
+-- A payload that was read is the spelling of what its kind holds.
 content_found : (alone : Bool) (kind : Kind) (position txid : ℕ) (bytes : List ℕ) (at end : ℕ) (r : Stored) → IsBytes bytes → FitsKind alone kind
     → may_hold kind (end - at) ≡ true
     → stored_at kind position txid bytes at end ≡ Ok r → Content alone kind position txid (slice_range bytes at end) r
@@ -54,6 +56,7 @@ kind_in (Plain position txid payload) = kinds.Plain
 kind_in (Control position txid) = kinds.Control
 kind_in (Set position txid payloads) = kinds.Set
 
+-- From the spelling of a payload the record is read.
 content_again : (r : Stored) (bytes : List ℕ) (at end : ℕ) → IsMembers r → length (payload_bytes r) ≤ PAYLOAD_MAX
     → slice_range bytes at end ≡ payload_bytes r → stored_at (kind_in r) (position_of r) (txid_of r) bytes at end ≡ Ok r
 content_again (Plain position txid payload) bytes at end members short e = rw e refl
@@ -62,16 +65,19 @@ content_again (Set position txid payloads) bytes at end members short e =
     let s = set_again (take end bytes) at payloads members.0 members.1 short (sym (between_is bytes at end) ∙ e) in
     rw s refl
 
+-- The flags of a record are those of its kind.
 pub kind_flags-kind_in : (r : Stored) → kind_flags (kind_in r) ≡ flags_of r
 kind_flags-kind_in (Plain position txid payload) = refl
 kind_flags-kind_in (Control position txid) = refl
 kind_flags-kind_in (Set position txid payloads) = refl
 
+-- The kind of a record that is allowed may stand there.
 kind_fits : (alone : Bool) (r : Stored) → IsAllowed alone r → FitsKind alone (kind_in r)
 kind_fits alone (Plain position txid payload) h = tt
 kind_fits alone (Control position txid) h = h
 kind_fits alone (Set position txid payloads) h = tt
 
+-- The kind of a record may have a payload as long as its own.
 pub kind_holds : (r : Stored) → may_hold (kind_in r) (length (payload_bytes r)) ≡ true
 kind_holds (Plain position txid payload) = refl
 kind_holds (Control position txid) = refl
@@ -82,23 +88,27 @@ kind_holds (Set position txid payloads) = refl
 -- what the record before asks of the next one, as a reader keeps it
 abbrev pub behind_all : Option Stored → Option Behind
 behind_all None = None
-behind_all (Some r) = Some (behind r)
+behind_all (Some r) = Some (behind_of r)
 
+-- A record whose position and id passed the tests follows the one before.
 follows_found : (before : Option Stored) (r : Stored) → may_stand (behind_all before) (position_of r) ≡ true
     → may_bear (behind_all before) (txid_of r) ≡ true → Follows before r
 follows_found None r stands bears = tt
 follows_found (Some b) r stands bears = record { position = eqb-true _ _ stands; txid = leb-true _ _ bears }
 
+-- The position of a record that follows passes the test.
 stands_again : (before : Option Stored) (r : Stored) → Follows before r → may_stand (behind_all before) (position_of r) ≡ true
 stands_again None r h = refl
 stands_again (Some b) r h = eq-eqb _ _ h.position
 
+-- The id of a record that follows passes the test.
 bears_again : (before : Option Stored) (r : Stored) → Follows before r → may_bear (behind_all before) (txid_of r) ≡ true
 bears_again None r h = refl
 bears_again (Some b) r h = le-leb _ _ h.txid
 
 -- ---- one record
 
+-- The fields and the payload of a record stand one behind the other, and then the rest.
 pub fields_and_payload-append : (position flags txid : ℕ) (payload rest : List ℕ)
     → fields_and_payload position flags txid payload ++ rest ≡ field w32 position ++ (field w32 flags ++ (field w64 txid ++ (field w32
     (length payload) ++ (payload ++ rest))))
@@ -113,6 +123,7 @@ pub record RecordFound (alone : Bool) (before : Option Stored) (bytes : List ℕ
   pub room : end ≤ length bytes
   pub stands : drop at bytes ≡ record_bytes r ++ drop end bytes
 
+-- Bytes from which a record was read are its spelling, and it is valid there.
 pub record_found : (alone : Bool) (before : Option Stored) (bytes : List ℕ) (at : ℕ) (x : Stored × ℕ) → IsBytes bytes
     → record_at alone (behind_all before) bytes at ≡ Ok x → RecordFound alone before bytes at x.0 x.1
 unfolding record_at
@@ -153,6 +164,7 @@ pub record RecordReads (alone : Bool) (before : Option Stored) (bytes : List ℕ
   pub behind : drop (at + 20 + length (payload_bytes r)) bytes ≡ rest
   pub room : at + 20 + length (payload_bytes r) ≤ length bytes
 
+-- From the spelling of a record that is valid there the record is read.
 pub record_again : (alone : Bool) (before : Option Stored) (bytes : List ℕ) (at : ℕ) (r : Stored) (rest : List ℕ) → IsRecord r → IsAllowed alone r
     → Follows before r → drop at bytes ≡ record_bytes r ++ rest → RecordReads alone before bytes at r rest
 unfolding record_at
@@ -173,11 +185,13 @@ record_again alone before bytes at r rest is allowed follows e =
 
 -- ---- the records
 
+-- So many records stand from a place on, and are valid there.
 pub record RecordsFound (n : ℕ) (alone : Bool) (before : Option Stored) (bytes : List ℕ) (at : ℕ) (rs : List Stored) : Type 0 where
   pub are : AreRecords alone before rs
   pub stands : drop at bytes ≡ flat_map record_bytes rs
   pub count : length rs ≡ n
 
+-- Bytes from which records were read are their spelling, and they are valid there.
 pub records_found : (n : ℕ) (alone : Bool) (before : Option Stored) (bytes : List ℕ) (at : ℕ) (rs : List Stored) → IsBytes bytes
     → records_at n alone (behind_all before) bytes at ≡ Ok rs → RecordsFound n alone before bytes at rs
 unfolding records_at
@@ -186,8 +200,8 @@ records_found zero alone before bytes at rs fits e =
     subst (RecordsFound zero alone before bytes at) g.1 (record { are = tt; stands = drop_all at bytes (omega (arith, g.0)); count = refl })
 records_found (suc n) alone before bytes at rs fits e =
     let u = bind_ok (record_at alone (behind_all before) bytes at)
-    (λ first. records_at n alone (Some (behind first.0)) bytes first.1 >>= λ others. Ok (first.0 ∷ others)) rs e in
-    let v = bind_ok (records_at n alone (Some (behind u.0.0)) bytes u.0.1) (λ others. Ok (u.0.0 ∷ others)) rs u.2 in
+    (λ first. records_at n alone (Some (behind_of first.0)) bytes first.1 >>= λ others. Ok (first.0 ∷ others)) rs e in
+    let v = bind_ok (records_at n alone (Some (behind_of u.0.0)) bytes u.0.1) (λ others. Ok (u.0.0 ∷ others)) rs u.2 in
     let one = record_found alone before bytes at u.0 fits u.1 in
     let more = records_found n alone (Some u.0.0) bytes u.0.1 v.0 fits v.1 in
     subst (RecordsFound (suc n) alone before bytes at) (ok_is (u.0.0 ∷ v.0) rs v.2) (record {
@@ -196,6 +210,7 @@ records_found (suc n) alone before bytes at rs fits e =
       count = ap suc more.count;
     })
 
+-- From the spelling of records that are valid there the records are read.
 pub records_again : (rs : List Stored) (alone : Bool) (before : Option Stored) (bytes : List ℕ) (at : ℕ) → AreRecords alone before rs
     → at ≤ length bytes → drop at bytes ≡ flat_map record_bytes rs → records_at (length rs) alone (behind_all before) bytes at ≡ Ok rs
 unfolding records_at

@@ -1,5 +1,6 @@
 -- How long stored records and entries are.
-use Rattle.std.proofs.Common.{◌≡◌, ℕ, ◌+◌, ◌*◌, ◌≤◌, ◌<◌, ◌^◌, Bool, List, [], ◌∷◌, ◌++◌, length, take, Option, Some, None, All, refl, sym, ap, inl, inr, ◌∙◌, arith, length-append}
+use Rattle.std.proofs.Common.{◌≡◌, ℕ, ◌+◌, ◌*◌, ◌≤◌, ◌<◌, ◌^◌, Bool, List, [], ◌∷◌, ◌++◌, length, take}
+use Rattle.std.proofs.Common.{Option, Some, None, All, refl, sym, ap, inl, inr, ◌∙◌, arith, length-append}
 use Rattle.std.specs.List.{flat_map, AllByRecursion}
 use Rattle.std.specs.Int.{w8, w16, w32, w64}
 use Rattle.std.proofs.lemmas.List.{take_at, take-take, length-take}
@@ -21,9 +22,11 @@ front_kept old mid new first second = elim (cases_lt (length mid) (length old)) 
   | inr long ↦ sym (take-take (length old) (length mid) new long) ∙ ap (take (length old)) second ∙ first
 ]
 
+-- What bytes were added to stands before them.
 pub front_added : (old more new : List ℕ) → new ≡ old ++ more → take (length old) new ≡ old
 front_added old more new e = ap (take (length old)) e ∙ take_at old more (length old) refl
 
+-- A record has its payload and twenty bytes before it.
 pub length-fields_and_payload : (position flags txid : ℕ) (payload : List ℕ) → length (fields_and_payload position flags txid payload) ≡ 20 + length payload
 unfolding fields_and_payload
 length-fields_and_payload position flags txid payload =
@@ -43,6 +46,7 @@ length-fields_and_payload position flags txid payload =
       width_32.len (length payload),
     )
 
+-- A header has eight bytes.
 pub length-header_bytes : (count size : ℕ) → length (header_bytes count size) ≡ 8
 unfolding header_bytes
 length-header_bytes count size =
@@ -59,9 +63,11 @@ length-header_bytes count size =
       width_32.len size,
     )
 
+-- A stored record has its payload and twenty bytes before it.
 pub length-record_bytes : (r : Stored) → length (record_bytes r) ≡ 20 + length (payload_bytes r)
 length-record_bytes r = length-fields_and_payload (position_of r) (flags_of r) (txid_of r) (payload_bytes r)
 
+-- An entry has the bytes of its records and eight before them.
 pub length-entry_bytes : (parts : List Stored) → length (entry_bytes parts) ≡ 8 + length (flat_map record_bytes parts)
 length-entry_bytes parts =
     let body = flat_map record_bytes parts in
@@ -72,10 +78,12 @@ pub count_le : (parts : List Stored) → 20 * length parts ≤ length (flat_map 
 count_le [] = omega arith
 count_le (r ∷ rs) = omega (arith, count_le rs, length-append (record_bytes r) (flat_map record_bytes rs), length-record_bytes r)
 
+-- Records of an entry are each a record.
 each_by_recursion : (alone : Bool) (before : Option Stored) (rs : List Stored) → AreRecords alone before rs → AllByRecursion IsRecord rs
 each_by_recursion alone before [] h = tt
 each_by_recursion alone before (r ∷ rs) h = (h.0, each_by_recursion alone (Some r) rs h.1.1.1)
 
+-- Each record of an entry is a record.
 pub each_record : (parts : List Stored) → IsEntry parts → All IsRecord parts
 each_record parts h = All-from_recursion IsRecord parts (each_by_recursion _ None parts h.records)
 
@@ -83,6 +91,7 @@ each_record parts h = All-from_recursion IsRecord parts (each_by_recursion _ Non
 pub count_fits : (parts : List Stored) → IsEntry parts → 20 * length parts + 8 ≤ ENTRY_MAX
 count_fits parts h = omega (arith, count_le parts, length-entry_bytes parts, h.size)
 
+-- The records of an entry leave room for its header.
 pub body_fits : (parts : List Stored) → IsEntry parts → length (flat_map record_bytes parts) + 8 ≤ ENTRY_MAX
 body_fits parts h = omega (arith, length-entry_bytes parts, h.size)
 

@@ -1,19 +1,23 @@
 -- Steps of a reader that did not fail, and the fields that they read.
-use Rattle.std.proofs.Common.{◌≡◌, ℕ, ◌-◌, ◌+◌, ◌≤◌, ◌<◌, ◌^◌, Bool, true, false, cond, leb, List, ◌++◌, length, take, drop, Result, Ok, Err, refl, sym, ap, subst, ◌∙◌, arith, inl, inr, length-append}
+use Rattle.std.proofs.Common.{◌≡◌, ℕ, ◌-◌, ◌+◌, ◌≤◌, ◌<◌, ◌^◌, Bool, true, false, cond, leb, List, ◌++◌, length, take}
+use Rattle.std.proofs.Common.{drop, Result, Ok, Err, refl, sym, ap, subst, ◌∙◌, arith, inl, inr, length-append}
 use Rattle.std.specs.Prelude.{slice_range}
 use Rattle.std.specs.Int.{Width, byte_len}
 use Rattle.std.proofs.lemmas.Bool.{cases_lt, leb-true, le-leb}
-use Rattle.std.proofs.lemmas.List.{take_at, drop_at, take-append-drop, length-take, length-take-le, length-drop, drop-drop, get_or-drop, get_or-take, get_or_past}
+use Rattle.std.proofs.lemmas.List.{take_at, drop_at, take-append-drop, length-take, length-take-le}
+use Rattle.std.proofs.lemmas.List.{length-drop, drop-drop, get_or-drop, get_or-take, get_or_past}
 use Rattle.dl_codec.specs.declared.short.Short as codec
 pub use Rattle.dl_reading.proofs.ReadingLemmas.{bind_ok, ok_is}
 use Rattle.dl_codec.specs.Fields.{field, number_of, number_at, short_at, IsBytes}
 use Rattle.dl_codec.specs.Laws.{HasOneSpelling}
 use Rattle.dl_record.specs.declared.entry_flaw.EntryFlaw.{EntryFlaw}
-use Rattle.dl_record.specs.Reading.{◌>>=◌, or_short, field_at, allowed, end_at}
+use Rattle.dl_record.specs.Reading.{◌>>=◌, or_short, field_at, value_if, end_at}
 
+-- Bytes from a place on are bytes.
 pub IsBytes-drop : (n : ℕ) (bytes : List ℕ) → IsBytes bytes → IsBytes (drop n bytes)
 IsBytes-drop n bytes h i = rw get_or-drop (h (n + i))
 
+-- Bytes up to a place are bytes.
 pub IsBytes-take : (n : ℕ) (bytes : List ℕ) → IsBytes bytes → IsBytes (take n bytes)
 IsBytes-take n bytes h i = elim (cases_lt i n) [
   | inl lt ↦ rw (get_or-take n bytes i 0 lt) (h i)
@@ -31,27 +35,31 @@ pub chosen : {A : Type 0} (b : Bool) (fault : EntryFlaw) (r : Result A EntryFlaw
 chosen true fault r y e = absurd cc
 chosen false fault r y e = (refl, e)
 
-pub allowed_ok : (b : Bool) (fault : EntryFlaw) (n m : ℕ) → allowed b fault n ≡ Ok m → (b ≡ true) × (n ≡ m)
-allowed_ok true fault n m e = (refl, cc)
-allowed_ok false fault n m e = absurd cc
+-- A value that was given passed the test, and is the value.
+pub value_if_ok : (b : Bool) (fault : EntryFlaw) (n m : ℕ) → value_if b fault n ≡ Ok m → (b ≡ true) × (n ≡ m)
+value_if_ok true fault n m e = (refl, cc)
+value_if_ok false fault n m e = absurd cc
 
 -- a number that passed its test
-pub checked_ok : (read : Result ℕ EntryFlaw) (p : ℕ → Bool) (fault : EntryFlaw) (m : ℕ) → (read >>= λ n. allowed (p n) fault n) ≡ Ok m
+pub checked_ok : (read : Result ℕ EntryFlaw) (p : ℕ → Bool) (fault : EntryFlaw) (m : ℕ) → (read >>= λ n. value_if (p n) fault n) ≡ Ok m
     → (read ≡ Ok m) × (p m ≡ true)
 checked_ok read p fault m e =
-    let u = bind_ok read (λ n. allowed (p n) fault n) m e in
-    let v = allowed_ok (p u.0) fault u.0 m u.2 in
+    let u = bind_ok read (λ n. value_if (p n) fault n) m e in
+    let v = value_if_ok (p u.0) fault u.0 m u.2 in
     (u.1 ∙ ap (λ (n : ℕ). done n) v.1, ap p (sym v.1) ∙ v.0)
 
 -- ---- fields
 
+-- A field of an entry was a field of the codec.
 or_short_ok : (r : Result ℕ codec.Short) (n : ℕ) → or_short r ≡ Ok n → r ≡ Ok n
 or_short_ok (Ok m) n e = let same : m ≡ n = cc in cc
 or_short_ok (Err short) n e = absurd cc
 
+-- a number, as what a reading gives
 abbrev number : ℕ → Result ℕ codec.Short
 number n = Ok n
 
+-- A number that was given passed the test, and is the number.
 numbered : (b : Bool) (n m : ℕ) (short : codec.Short) → cond b (number n) (Err short) ≡ Ok m → (b ≡ true) × (n ≡ m)
 numbered true n m short e = (refl, cc)
 numbered false n m short e = absurd cc
@@ -62,6 +70,7 @@ pub record Field (w : Width) (bytes : List ℕ) (at next n : ℕ) : Type 0 where
   pub room : next ≤ length bytes
   pub stands : drop at bytes ≡ field w n ++ drop next bytes
 
+-- Bytes from which a field was read stand for it.
 pub field_found : (w : Width) → HasOneSpelling w → (bytes : List ℕ) (at next n : ℕ) → IsBytes bytes → next ≡ at + byte_len w
     → field_at w bytes at ≡ Ok n → Field w bytes at next n
 unfolding field_at number_at
@@ -88,6 +97,7 @@ pub record FieldReads (w : Width) (bytes : List ℕ) (at next n : ℕ) (rest : L
   pub behind : drop next bytes ≡ rest
   pub room : next ≤ length bytes
 
+-- From the spelling of a number the number is read.
 pub field_again : (w : Width) → HasOneSpelling w → 0 < byte_len w → (bytes : List ℕ) (at next n : ℕ) (rest : List ℕ) → next ≡ at + byte_len w
     → n < 256 ^ byte_len w → drop at bytes ≡ field w n ++ rest → FieldReads w bytes at next n rest
 unfolding field_at number_at
@@ -108,10 +118,12 @@ field_again w law some bytes at next n rest place fits e =
 
 -- ---- runs of bytes
 
+-- A run stands between two places.
 pub record Part (bytes : List ℕ) (at end : ℕ) : Type 0 where
   pub stands : drop at bytes ≡ slice_range bytes at end ++ drop end bytes
   pub len : length (slice_range bytes at end) + at ≡ end
 
+-- A run of bytes within the list stands between what is before and behind it.
 pub part_found : (bytes : List ℕ) (at end : ℕ) → at ≤ end → end ≤ length bytes → Part bytes at end
 part_found bytes at end within room =
     let behind : drop (end - at) (drop at bytes) ≡ drop end bytes = drop-drop (end - at) at bytes ∙ ap (λ (i : ℕ). drop i bytes) (omega arith) in
@@ -120,10 +132,12 @@ part_found bytes at end within room =
       len = omega (arith, length-take-le (end - at) (drop at bytes) (omega (arith, length-drop at bytes)));
     }
 
+-- The run between two places is these bytes, and the rest stands behind it.
 pub record PartReads (bytes : List ℕ) (at end : ℕ) (text rest : List ℕ) : Type 0 where
   pub reads : slice_range bytes at end ≡ text
   pub behind : drop end bytes ≡ rest
 
+-- From the spelling of a run its bytes are taken.
 pub part_again : (bytes : List ℕ) (at end : ℕ) (text rest : List ℕ) → end ≡ at + length text → drop at bytes ≡ text ++ rest → PartReads bytes at end text rest
 part_again bytes at end text rest place e = record {
   reads = ap (λ (k : ℕ). take k (drop at bytes)) (omega arith) ∙ ap (take (length text)) e ∙ take_at text rest (length text) refl;
@@ -134,9 +148,10 @@ part_again bytes at end text rest place e = record {
 pub end_found : (bytes : List ℕ) (at size end : ℕ) → end_at bytes at size ≡ Ok end → (end ≡ at + size) × (end ≤ length bytes)
 unfolding end_at
 end_found bytes at size end e =
-    let g = allowed_ok (leb (at + size) (length bytes)) _ (at + size) end e in
+    let g = value_if_ok (leb (at + size) (length bytes)) _ (at + size) end e in
     (sym g.1, omega (arith, leb-true (at + size) (length bytes) g.0))
 
+-- A run within the list ends there.
 pub end_again : (bytes : List ℕ) (at size : ℕ) → at + size ≤ length bytes → end_at bytes at size ≡ Ok (at + size)
 unfolding end_at
 end_again bytes at size room = rw (le-leb (at + size) (length bytes) room) refl

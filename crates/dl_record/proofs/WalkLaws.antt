@@ -1,5 +1,6 @@
 -- A walk gives the user rows of an entry.
-use Rattle.std.proofs.Common.{◌≡◌, ℕ, suc, ◌+◌, ◌≤◌, ◌<◌, ◌^◌, Bool, true, eqb, leb, ◌&&◌, Option, Some, None, List, [], ◌∷◌, ◌++◌, length, drop, Ok, refl, sym, ap, subst, ◌∙◌, append_assoc, arith, length-append}
+use Rattle.std.proofs.Common.{◌≡◌, ℕ, suc, ◌+◌, ◌≤◌, ◌<◌, ◌^◌, Bool, true, eqb, leb, ◌&&◌, Option, Some, None, List, []}
+use Rattle.std.proofs.Common.{◌∷◌, ◌++◌, length, drop, Ok, refl, sym, ap, subst, ◌∙◌, append_assoc, arith, length-append}
 use Rattle.std.specs.List.{flat_map}
 use Rattle.std.specs.Int.{w8, w16, w32, w64}
 use Rattle.std.proofs.lemmas.Bool.{eqb-true}
@@ -17,7 +18,7 @@ use Rattle.dl_record.specs.Stored.{position_of, txid_of, payloads_of, rows_in}
 use Rattle.dl_record.specs.Grammar.{member_bytes, set_bytes, payload_bytes, flags_of, record_bytes, entry_bytes, IsMembers, IsAllowed, AreRecords, IsEntry}
 use Rattle.dl_record.specs.Reading.{field_at, members_count_at}
 use Rattle.dl_record.specs.UserRows.{RowOf}
-use Rattle.dl_record.specs.Rows.{numbered, rows_from, user_rows, members_walk, kind_walk, records_walk}
+use Rattle.dl_record.specs.Rows.{rows_of, rows_from, user_rows, members_walk, kind_walk, records_walk}
 use Rattle.dl_record.proofs.MemberSizes.{length-member_bytes, length-set_bytes}
 use Rattle.dl_record.proofs.Sizes.{length-record_bytes, length-entry_bytes, count_fits}
 use Rattle.dl_record.proofs.Steps.{field_again, part_again}
@@ -28,14 +29,17 @@ use Rattle.dl_record.proofs.Entries.{header_bytes-append}
 
 -- ---- how many rows there are
 
-pub length-numbered : (slot txid : ℕ) (ps : List (List ℕ)) → length (numbered slot txid ps) ≡ length ps
-length-numbered slot txid [] = refl
-length-numbered slot txid (p ∷ ps) = ap suc (length-numbered (slot + 1) txid ps)
+-- There are as many rows as payloads.
+pub length-rows_of : (slot txid : ℕ) (ps : List (List ℕ)) → length (rows_of slot txid ps) ≡ length ps
+length-rows_of slot txid [] = refl
+length-rows_of slot txid (p ∷ ps) = ap suc (length-rows_of (slot + 1) txid ps)
 
+-- There are at most as many members as bytes of members.
 members_le : (ps : List (List ℕ)) → length ps ≤ length (flat_map member_bytes ps)
 members_le [] = omega arith
 members_le (p ∷ ps) = omega (arith, members_le ps, length-append (member_bytes p) (flat_map member_bytes ps), length-member_bytes p)
 
+-- A record has at most as many rows as bytes.
 rows_in_le : (r : Stored) → rows_in r ≤ length (record_bytes r)
 rows_in_le (Plain position txid payload) = omega (arith, length-record_bytes (Plain position txid payload))
 rows_in_le (Control position txid) = omega arith
@@ -51,15 +55,16 @@ rows_le slot (r ∷ rs) =
       rows_in_le r,
       length-append (record_bytes r) (flat_map record_bytes rs),
       length-append
-          (numbered slot (txid_of r) (payloads_of r)) (rows_from (slot + rows_in r) rs),
-      length-numbered slot (txid_of r) (payloads_of r),
+          (rows_of slot (txid_of r) (payloads_of r)) (rows_from (slot + rows_in r) rs),
+      length-rows_of slot (txid_of r) (payloads_of r),
     )
 
 -- ---- members
 
+-- A walk over the spelling of a set's members gives their rows, and then the others.
 members_walk_again : (ps : List (List ℕ)) (slot txid : ℕ) (bytes : List ℕ) (at : ℕ) (others : List RowOf) (more : List ℕ)
     → length (flat_map member_bytes ps) < 2 ^ 32 → drop at bytes ≡ flat_map member_bytes ps ++ more
-    → members_walk (length ps) slot txid bytes at others ≡ numbered slot txid ps ++ others
+    → members_walk (length ps) slot txid bytes at others ≡ rows_of slot txid ps ++ others
 unfolding members_walk
 members_walk_again [] slot txid bytes at others more fits e = refl
 members_walk_again (p ∷ ps) slot txid bytes at others more fits e =
@@ -69,10 +74,12 @@ members_walk_again (p ∷ ps) slot txid bytes at others more fits e =
     let rest = members_walk_again ps (slot + 1) txid bytes (at + 4 + length p) others more (omega (arith, fits, sizes)) one.behind in
     rw (one.reads, one.is, rest) refl
 
+-- The count of a set is read at a place, and its members stand behind it.
 pub record SetReads (bytes : List ℕ) (at : ℕ) (ps : List (List ℕ)) (rest : List ℕ) : Type 0 where
   pub reads : members_count_at bytes (at + 2) ≡ Ok (length ps)
   pub behind : drop (at + 4) bytes ≡ flat_map member_bytes ps ++ rest
 
+-- From the spelling of a set its count is read.
 set_reads : (bytes : List ℕ) (at : ℕ) (ps : List (List ℕ)) (rest : List ℕ) → 1 ≤ length ps → length ps ≤ MEMBERS_MAX
     → drop at bytes ≡ set_bytes ps ++ rest → SetReads bytes at ps rest
 unfolding members_count_at set_bytes
@@ -94,10 +101,11 @@ NoneBehind (Plain position txid payload) rows = Unit {0}
 NoneBehind (Control position txid) rows = rows ≡ []
 NoneBehind (Set position txid payloads) rows = Unit {0}
 
+-- A walk over the spelling of a record gives its rows, and then the others.
 kind_walk_again : (r : Stored) (slot : ℕ) (bytes : List ℕ) (at end : ℕ) (others : ℕ → List RowOf) (rest : List ℕ) → IsMembers r
     → length (payload_bytes r) ≤ PAYLOAD_MAX → end ≡ at + length (payload_bytes r)
     → drop at bytes ≡ payload_bytes r ++ rest → NoneBehind r (others (slot + rows_in r))
-    → kind_walk (kind_in r) slot (txid_of r) bytes at end others ≡ numbered slot (txid_of r) (payloads_of r) ++ others (slot + rows_in r)
+    → kind_walk (kind_in r) slot (txid_of r) bytes at end others ≡ rows_of slot (txid_of r) (payloads_of r) ++ others (slot + rows_in r)
 kind_walk_again (Plain position txid payload) slot bytes at end others rest members short place e none =
     let p = part_again bytes at end payload rest place e in
     rw (p.reads) refl
@@ -108,11 +116,13 @@ kind_walk_again (Set position txid payloads) slot bytes at end others rest membe
     (omega (arith, short, length-set_bytes payloads)) s.behind in
     rw (s.reads) m
 
+-- Any kind may stand alone.
 fits_alone : (kind : Kind) → FitsKind true kind
 fits_alone kinds.Plain = tt
 fits_alone kinds.Control = refl
 fits_alone kinds.Set = tt
 
+-- Behind a control record no rows stand.
 none_behind : (r : Stored) (rs : List Stored) (alone : Bool) (slot : ℕ) → IsAllowed alone r → (alone ≡ true → length (r ∷ rs) ≤ 1)
     → NoneBehind r (rows_from slot rs)
 none_behind (Plain position txid payload) rs alone slot allowed one = tt
@@ -120,6 +130,7 @@ none_behind (Control position txid) [] alone slot allowed one = refl
 none_behind (Control position txid) (s ∷ rs) alone slot allowed one = absurd (omega (arith, one allowed))
 none_behind (Set position txid payloads) rs alone slot allowed one = tt
 
+-- A walk over the spelling of records gives their rows.
 records_walk_again : (rs : List Stored) (alone : Bool) (before : Option Stored) (slot : ℕ) (bytes : List ℕ) (at : ℕ) → AreRecords alone before rs
     → (alone ≡ true → length rs ≤ 1) → drop at bytes ≡ flat_map record_bytes rs
     → records_walk (length rs) slot bytes at ≡ rows_from slot rs
@@ -144,10 +155,11 @@ records_walk_again (r ∷ rs) alone before slot bytes at are one e =
     subst (λ (l : List RowOf). NoneBehind r l) (sym (more (slot + rows_in r))) (none_behind r rs alone (slot + rows_in r) are.1.0 one) in
     let k = kind_walk_again r slot bytes (at + 20) (at + 20 + size)
     (λ next. records_walk (length rs) next bytes (at + 20 + size)) rest is.members is.payload refl h.behind none in
-    rw (h.reads) (k ∙ ap (λ (l : List RowOf). numbered slot (txid_of r) (payloads_of r) ++ l) (more (slot + rows_in r)))
+    rw (h.reads) (k ∙ ap (λ (l : List RowOf). rows_of slot (txid_of r) (payloads_of r) ++ l) (more (slot + rows_in r)))
 
 -- ---- the entry
 
+-- A walk over these bytes gives the entry's user rows.
 pub record EntryWalk (bytes : List ℕ) (parts : List Stored) : Type 0 where
   pub count : field_at w16 bytes 2 ≡ Ok (length parts)
   pub rows : records_walk (length parts) 0 bytes 8 ≡ user_rows parts
@@ -155,6 +167,7 @@ pub record EntryWalk (bytes : List ℕ) (parts : List Stored) : Type 0 where
   pub room : 8 ≤ length bytes
   pub size : length bytes ≤ ENTRY_MAX
 
+-- A walk over the spelling of an entry gives its user rows.
 pub entry_walk : (bytes : List ℕ) (parts : List Stored) → IsEntry parts → bytes ≡ entry_bytes parts → EntryWalk bytes parts
 entry_walk bytes parts is spelt =
     let count = length parts in
@@ -182,6 +195,7 @@ pub record WalkBegins (bytes : List ℕ) (parts : List Stored) (c : Cursor) : Ty
   pub rows : rows_left bytes c ≡ user_rows parts
   pub walk : IsWalk bytes c
 
+-- A walk that begins behind the header of an entry has all the entry's rows left.
 pub walk_begins : (bytes : List ℕ) (parts : List Stored) (n txid : ℕ) → IsEntry parts → bytes ≡ entry_bytes parts
     → ((m : ℕ) → field_at w16 bytes 2 ≡ Ok m → n ≡ m)
     → WalkBegins bytes parts (record { at = 8; records = n; slot = 0; members = 0; member_at = 0; txid = txid })

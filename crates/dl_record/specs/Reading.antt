@@ -1,5 +1,6 @@
 -- Reading an entry in the order of its bytes, up to the first flaw.
-use Rattle.std.specs.Prelude.{◌≡◌, ℕ, zero, suc, ◌+◌, Bool, true, ◌==◌, nat_le, nat_lt, ◌&&◌, not, Option, Some, None, Result, Ok, Err, List, [], ◌∷◌, length, take, slice_range, if◌then◌else◌, IfSome}
+use Rattle.std.specs.Prelude.{◌≡◌, ℕ, zero, suc, ◌+◌, Bool, true, ◌==◌, nat_le, nat_lt, ◌&&◌, not, Option, Some, None}
+use Rattle.std.specs.Prelude.{Result, Ok, Err, List, [], ◌∷◌, length, take, slice_range, if◌then◌else◌, IfSome}
 use Rattle.std.specs.Int.{Width, w8, w16, w32, w64}
 pub use Rattle.dl_reading.specs.Readings.{◌>>=◌, FaultBy, GivesBy}
 use Rattle.dl_types.specs.declared.txid.TheConstants.{MAX_TXID}
@@ -33,12 +34,12 @@ unfoldable pub field_at : Width → List ℕ → ℕ → Result ℕ EntryFlaw
 field_at w bytes at = or_short (number_at w bytes at)
 
 -- a value that passes a test, or this flaw
-abbrev pub allowed : Bool → EntryFlaw → ℕ → Result ℕ EntryFlaw
-allowed passes flaw n = if passes then Ok n else Err flaw
+abbrev pub value_if : Bool → EntryFlaw → ℕ → Result ℕ EntryFlaw
+value_if passes flaw n = if passes then Ok n else Err flaw
 
 -- the end of a run of bytes within the list
 unfoldable pub end_at : List ℕ → ℕ → ℕ → Result ℕ EntryFlaw
-end_at bytes at size = allowed (nat_le (at + size) (length bytes)) (Short at) (at + size)
+end_at bytes at size = value_if (nat_le (at + size) (length bytes)) (Short at) (at + size)
 
 -- ---- the header
 
@@ -46,26 +47,26 @@ end_at bytes at size = allowed (nat_le (at + size) (length bytes)) (Short at) (a
 unfoldable pub version_at : List ℕ → ℕ → Result ℕ EntryFlaw
 version_at bytes at = do
   n ← field_at w8 bytes at
-  allowed (n == 1) (BadFlags at) n
+  value_if (n == 1) (BadFlags at) n
 
 -- the codec is 0
 unfoldable pub codec_at : List ℕ → ℕ → Result ℕ EntryFlaw
 codec_at bytes at = do
   n ← field_at w8 bytes at
-  allowed (n == 0) (Compressed at) n
+  value_if (n == 0) (Compressed at) n
 
 -- the number of stored records is not 0
 unfoldable pub count_at : List ℕ → ℕ → Result ℕ EntryFlaw
 count_at bytes at = do
   n ← field_at w16 bytes at
-  allowed (not (n == 0)) (BadCount at) n
+  value_if (not (n == 0)) (BadCount at) n
 
 -- as many bytes follow as the header says
 unfoldable pub size_at : List ℕ → ℕ → Result ℕ EntryFlaw
 size_at bytes at = do
   n ← field_at w32 bytes at
   if nat_lt (length bytes) (at + 4 + n) then Err (Short at)
-      else allowed (nat_le (length bytes) (at + 4 + n)) (Long (at + 4 + n)) n
+      else value_if (nat_le (length bytes) (at + 4 + n)) (Long (at + 4 + n)) n
 
 -- the number of stored records
 unfoldable pub header_at : List ℕ → Result ℕ EntryFlaw
@@ -79,8 +80,8 @@ header_at bytes = do
 -- ---- the fields of a stored record
 
 -- what a stored record asks of the one behind it
-abbrev pub behind : Stored → Behind
-behind r = record { position = position_of r + rows_in r; txid = txid_of r }
+abbrev pub behind_of : Stored → Behind
+behind_of r = record { position = position_of r + rows_in r; txid = txid_of r }
 
 -- whether a record may have this position behind that one
 abbrev pub may_stand : Option Behind → ℕ → Bool
@@ -96,7 +97,7 @@ may_bear (Some before) n = nat_le before.txid n
 unfoldable pub position_at : Option Behind → List ℕ → ℕ → Result ℕ EntryFlaw
 position_at before bytes at = do
   n ← field_at w32 bytes at
-  allowed (may_stand before n) (BadCount at) n
+  value_if (may_stand before n) (BadCount at) n
 
 -- the kind of record that flags name
 abbrev pub kind_of : Bool → ℕ → ℕ → Result Kind EntryFlaw
@@ -116,7 +117,7 @@ kind_at alone bytes at = do
 unfoldable pub txid_at : Option Behind → List ℕ → ℕ → Result ℕ EntryFlaw
 txid_at before bytes at = do
   n ← field_at w64 bytes at
-  if nat_lt MAX_TXID n then Err (BadFlags at) else allowed (may_bear before n) (TxidBack at) n
+  if nat_lt MAX_TXID n then Err (BadFlags at) else value_if (may_bear before n) (TxidBack at) n
 
 -- whether a record of this kind may have a payload of so many bytes
 abbrev pub may_hold : Kind → ℕ → Bool
@@ -128,7 +129,7 @@ may_hold kinds.Control n = n == 0
 unfoldable pub length_at : Kind → List ℕ → ℕ → Result ℕ EntryFlaw
 length_at kind bytes at = do
   n ← field_at w32 bytes at
-  if nat_lt PAYLOAD_MAX n then Err (TooLong at) else allowed (may_hold kind n) (BadCount at) n
+  if nat_lt PAYLOAD_MAX n then Err (TooLong at) else value_if (may_hold kind n) (BadCount at) n
 
 -- the fields of a stored record, and where its payload ends
 unfoldable pub head_at : Bool → Option Behind → List ℕ → ℕ → Result Head EntryFlaw
@@ -146,13 +147,13 @@ head_at alone before bytes at = do
 unfoldable pub zero_at : List ℕ → ℕ → Result ℕ EntryFlaw
 zero_at bytes at = do
   n ← field_at w8 bytes at
-  allowed (n == 0) (BadFlags at) n
+  value_if (n == 0) (BadFlags at) n
 
 -- how many members there are
 unfoldable pub members_count_at : List ℕ → ℕ → Result ℕ EntryFlaw
 members_count_at bytes at = do
   n ← field_at w16 bytes at
-  allowed (nat_le 1 n && nat_le n MEMBERS_MAX) (BadCount at) n
+  value_if (nat_le 1 n && nat_le n MEMBERS_MAX) (BadCount at) n
 
 -- how many members a record set has that begins at a place
 unfoldable pub set_count_at : List ℕ → ℕ → Result ℕ EntryFlaw
@@ -207,7 +208,7 @@ unfoldable pub records_at : ℕ → Bool → Option Behind → List ℕ → ℕ 
 records_at zero alone before bytes at = if at == length bytes then Ok [] else Err (Long at)
 records_at (suc n) alone before bytes at = do
   first ← record_at alone before bytes at
-  others ← records_at n alone (Some (behind first.0)) bytes first.1
+  others ← records_at n alone (Some (behind_of first.0)) bytes first.1
   Ok (first.0 ∷ others)
 
 -- the stored records of an entry, or its first flaw
@@ -227,8 +228,8 @@ Refuses bytes fault = IfSome (flaw_of fault) (IsFlaw bytes)
 -- ---- what a check keeps of a reading
 
 -- that it found no flaw
-abbrev pub passed : {A : Type 0} → Result A EntryFlaw → Result (Unit {0}) EntryFlaw
-passed read = read >>= λ _. Ok tt
+abbrev pub verdict : {A : Type 0} → Result A EntryFlaw → Result (Unit {0}) EntryFlaw
+verdict read = read >>= λ _. Ok tt
 
 -- how many members a record set has
 abbrev pub set_rows_at : List ℕ → ℕ → Result ℕ EntryFlaw
@@ -246,4 +247,4 @@ content_rows_at head bytes at = do
 abbrev pub behind_at : Bool → Option Behind → List ℕ → ℕ → Result (Behind × ℕ) EntryFlaw
 behind_at alone before bytes at = do
   first ← record_at alone before bytes at
-  Ok (behind first.0, first.1)
+  Ok (behind_of first.0, first.1)

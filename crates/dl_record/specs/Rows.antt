@@ -9,14 +9,14 @@ use Rattle.dl_record.specs.Reading.{head_at, members_count_at, member_end_at}
 use Rattle.dl_record.specs.UserRows.{RowOf, row_of}
 
 -- rows with these payloads and one transaction id, in successive slots
-abbrev pub numbered : (slot txid : ℕ) → List (List ℕ) → List RowOf
-numbered slot txid [] = []
-numbered slot txid (payload ∷ payloads) = row_of slot txid payload ∷ numbered (slot + 1) txid payloads
+abbrev pub rows_of : (slot txid : ℕ) → List (List ℕ) → List RowOf
+rows_of slot txid [] = []
+rows_of slot txid (payload ∷ payloads) = row_of slot txid payload ∷ rows_of (slot + 1) txid payloads
 
 -- the user rows of stored records, in slots from this one on
 abbrev pub rows_from : ℕ → List Stored → List RowOf
 rows_from slot [] = []
-rows_from slot (r ∷ rs) = numbered slot (txid_of r) (payloads_of r) ++ rows_from (slot + rows_in r) rs
+rows_from slot (r ∷ rs) = rows_of slot (txid_of r) (payloads_of r) ++ rows_from (slot + rows_in r) rs
 
 -- The user rows of an entry, in slots from 0 on: members of a set take successive slots and share its id, and control
 -- records have none.

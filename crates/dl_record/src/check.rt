@@ -1,6 +1,7 @@
 ghost use Rattle.std.specs.Prelude.{◌≡◌, ◌+◌, ◌≤◌, ◌==◌, ◌↔◌, ℕ, List, None, IfOk, IsOk, IfErr, length};
 ghost use Rattle.dl_record.specs.Grammar.{IsEntryBytes};
-ghost use Rattle.dl_record.specs.Reading.{members_at, records_at, entry_at, passed, set_rows_at, content_rows_at, behind_at, IsFlaw};
+ghost use Rattle.dl_record.specs.Reading.{members_at, records_at, entry_at, verdict};
+ghost use Rattle.dl_record.specs.Reading.{set_rows_at, content_rows_at, behind_at, IsFlaw};
 
 use crate::entry_flaw::EntryFlaw;
 use crate::head::{head_of, header_of};
@@ -10,7 +11,7 @@ use crate::sets::{member_end_of, set_count_of};
 
 /// Whether so many members stand up to the end of the bytes.
 fn check_members(count: u16, bytes: &[u8], start: usize) -> Result<(), EntryFlaw>
-    ensures { passed (members_at count bytes.now start) ≡ result }
+    ensures { verdict (members_at count bytes.now start) ≡ result }
 {
     let mut at = start;
     for _ in 0..count {
@@ -67,7 +68,7 @@ fn check_record(
 /// Whether so many stored records stand behind the header, up to the end of the bytes.
 fn check_records(count: u16, bytes: &[u8]) -> Result<(), EntryFlaw>
     requires { 8 ≤ length bytes.now }
-    ensures { passed (records_at count (count == 1) None bytes.now 8) ≡ result }
+    ensures { verdict (records_at count (count == 1) None bytes.now 8) ≡ result }
 {
     let mut before = None;
     let mut at = 8;
@@ -86,7 +87,7 @@ fn check_records(count: u16, bytes: &[u8]) -> Result<(), EntryFlaw>
 /// Whether there is an entry in the bytes, by the reading of `decode_entry`.
 #[tactic(auto, unfolding(crate::specs::Reading::entry_at))]
 fn check_bytes(bytes: &[u8]) -> Result<(), EntryFlaw>
-    ensures { passed (entry_at bytes.now) ≡ result }
+    ensures { verdict (entry_at bytes.now) ≡ result }
 {
     if bytes.len() > ENTRY_MAX {
         return Err(EntryFlaw::TooLong { at: 0 });

@@ -1,5 +1,6 @@
 ghost use Rattle.std.specs.Prelude.{◌≡◌, ◌+◌, ◌≤◌, ◌<◌, length, take, IfOk, IfErr, List, ℕ, None, Ok, ◌==◌};
-ghost use Rattle.dl_record.specs.Reading.{Gives, members_at, set_at, content_at, record_at, records_at, entry_at, behind, Refuses};
+ghost use Rattle.dl_record.specs.Reading.{Gives, members_at, set_at, content_at, record_at};
+ghost use Rattle.dl_record.specs.Reading.{records_at, entry_at, behind_of, Refuses};
 ghost use Rattle.dl_record.specs.declared.stored.Stored.{Stored};
 ghost use Rattle.dl_record.specs.Grammar.{IsEntry, entry_bytes};
 
@@ -96,8 +97,8 @@ fn record_of(
 }
 
 /// What a stored record asks of the one behind it.
-fn behind(stored: &Stored) -> Behind
-    ensures { result ≡ behind stored.now }
+fn behind_of(stored: &Stored) -> Behind
+    ensures { result ≡ behind_of stored.now }
 {
     Behind {
         position: u64::from(stored.position()) + stored.rows() as u64,
@@ -116,7 +117,7 @@ fn records_of(alloc: Global, count: u16, bytes: &[u8]) -> Result<Vec<Stored>, En
     let mut at = 8;
     for _ in 0..count {
         let (stored, end) = record_of(alloc, count == 1, before, bytes, at)?;
-        before = Some(behind(&stored));
+        before = Some(behind_of(&stored));
         records.push(stored)?;
         at = end;
     }

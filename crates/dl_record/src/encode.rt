@@ -5,7 +5,8 @@ ghost use Rattle.std.specs.Int.{w8, w16, w32, w64};
 ghost use Rattle.dl_codec.specs.Fields.{field};
 ghost use Rattle.std.specs.Prelude.{[], ◌∷◌};
 ghost use Rattle.dl_record.specs.declared.stored.Stored.TheVariants.{Control};
-ghost use Rattle.dl_record.specs.Grammar.{member_bytes, set_bytes, fields_and_payload, header_bytes, record_bytes, entry_bytes, IsRecord, IsEntry};
+ghost use Rattle.dl_record.specs.Grammar.{member_bytes, set_bytes, fields_and_payload, header_bytes};
+ghost use Rattle.dl_record.specs.Grammar.{record_bytes, entry_bytes, IsRecord, IsEntry};
 
 use crate::limits::{ENTRY_MAX, MEMBERS_MAX, PAYLOAD_MAX};
 use crate::stored::Stored;

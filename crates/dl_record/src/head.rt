@@ -1,5 +1,6 @@
 ghost use Rattle.std.specs.Prelude.{◌≡◌, ◌+◌, ◌≤◌, length, IfOk, List, ℕ};
-ghost use Rattle.dl_record.specs.Reading.{version_at, codec_at, count_at, size_at, header_at, position_at, kind_at, txid_at, length_at, head_at, may_stand, may_bear, may_hold};
+ghost use Rattle.dl_record.specs.Reading.{version_at, codec_at, count_at, size_at, header_at, position_at};
+ghost use Rattle.dl_record.specs.Reading.{kind_at, txid_at, length_at, head_at, may_stand, may_bear, may_hold};
 
 use crate::entry_flaw::EntryFlaw;
 use crate::fields::{end_of, u8_at, u16_at, u32_at, u64_at};

@@ -7,9 +7,9 @@ use Rattle.std.proofs.lemmas.List.Concat.{flat_map-cons, length-flat_map}
 use Rattle.std.proofs.lemmas.List.Sums.{sum_by-cons}
 use Rattle.dl_codec.specs.Fields.{field, IsBytes}
 use Rattle.dl_fields.specs.Readers.{Exact, ◌>>=◌}
-use Rattle.dl_fields.specs.Fields.{Fits, counted, IsCounted}
-use Rattle.dl_fields.specs.Codes.{coded, code_byte, code_from}
-use Rattle.dl_fields.proofs.ReaderLemmas.{bind_ok, ok_is, made_exact, flawless_exact, bytes_behind}
+use Rattle.dl_fields.specs.Fields.{Fits, counted_field, IsCounted}
+use Rattle.dl_fields.specs.Codes.{value_of_code, code_byte, code_from}
+use Rattle.dl_fields.proofs.ReaderLemmas.{bind_ok, ok_is, made_exact, without_flaw_exact, bytes_behind}
 use Rattle.dl_fields.proofs.FieldLemmas.{bytes_taken, u64_exact, run32_exact}
 use Rattle.dl_fields.proofs.KindLemmas.{also_exact, kinded_exact}
 use Rattle.dl_fields.proofs.CodeLemmas.{all_codes_exact}
@@ -66,10 +66,10 @@ entry_is_read bytes w = (fits, subst (λ (r : Result (List Stored) EntryFlaw). l
     fits = omega (arith, w.1.size, ap length w.2)
 
 -- an entry behind its length is read exactly
-entry_field_exact : Exact IsRead (counted w32) entry_from
-entry_field_exact = flawless_exact _ _ _ entry_flaw inside run32_exact
+entry_field_exact : Exact IsRead (counted_field w32) entry_from
+entry_field_exact = without_flaw_exact _ _ _ entry_flaw inside run32_exact
   where
-    inside : (bytes : List ℕ) (back : ℕ) → entry_flaw bytes ≡ Some back → back ≤ length (counted w32 bytes)
+    inside : (bytes : List ℕ) (back : ℕ) → entry_flaw bytes ≡ Some back → back ≤ length (counted_field w32 bytes)
     inside bytes back e = omega (arith, left_some (length bytes) back (entry_at bytes) e, length-append (field w32 (length bytes)) bytes)
 
 -- ---- an item
@@ -92,7 +92,7 @@ kind_exact = all_codes_exact item_code item_kinds there each small
     there ACopy = (1, lit< tt, refl)
     there AFence = (2, lit< tt, refl)
 
-    each : (k : ItemKind) → coded item_code item_kinds (item_code k) ≡ Some k
+    each : (k : ItemKind) → value_of_code item_code item_kinds (item_code k) ≡ Some k
     each AnAdd = refl
     each ACopy = refl
     each AFence = refl

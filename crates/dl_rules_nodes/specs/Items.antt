@@ -5,7 +5,7 @@ use Rattle.std.specs.List.{AllByRecursion}
 use Rattle.std.specs.Int.{w32, w64}
 use Rattle.dl_types.specs.declared.meta_op.MetaOp.{MetaOp}
 use Rattle.dl_codec.specs.Fields.{field}
-use Rattle.dl_fields.specs.Fields.{Fits, counted}
+use Rattle.dl_fields.specs.Fields.{Fits, counted_field}
 use Rattle.dl_fields.specs.Codes.{code_byte}
 use Rattle.dl_record.specs.Grammar.{IsEntryBytes}
 use Rattle.dl_tree_msg.specs.Requests.{request_bytes, IsRequest}
@@ -45,7 +45,7 @@ item_kind (FenceItem l) = AFence
 
 -- the fields of an item that has an entry
 abbrev pub entry_fields : (ledger entry count : ℕ) → List ℕ → List ℕ
-entry_fields ledger entry count bytes = field w64 ledger ++ (field w64 entry ++ (field w64 count ++ counted w32 bytes))
+entry_fields ledger entry count bytes = field w64 ledger ++ (field w64 entry ++ (field w64 count ++ counted_field w32 bytes))
 
 -- an item behind its kind
 abbrev pub item_rest : Item → List ℕ

@@ -2,7 +2,7 @@
 use Rattle.std.specs.Prelude.{ℕ, ◌+◌, ◌==◌, Bool, true, false, nat_lt, List, [], ◌∷◌, Option, Some, None, Result}
 use Rattle.std.specs.Int.{w32, w64}
 use Rattle.dl_fields.specs.declared.fault.Fault.{Fault}
-use Rattle.dl_fields.specs.Readers.{then_at, map_at, passing, whole_from}
+use Rattle.dl_fields.specs.Readers.{then_at, map_at, with_test, whole_from}
 use Rattle.dl_fields.specs.Fields.{number_from}
 use Rattle.dl_fields.specs.Codes.{code_from}
 use Rattle.dl_tree_msg.specs.declared.rule.PathRule.TheVariants.{AllButConf}
@@ -21,11 +21,11 @@ kinds_due false = AConnect ∷ AnExpire ∷ AnAsk ∷ []
 
 -- the session that is given next
 abbrev pub new_session_from : Known → List ℕ → Result (ℕ × List ℕ) Fault
-new_session_from known = passing (λ session. session == known.last + 1) (number_from w64)
+new_session_from known = with_test (λ session. session == known.last + 1) (number_from w64)
 
 -- a live session
 abbrev pub live_session_from : Known → List ℕ → Result (ℕ × List ℕ) Fault
-live_session_from known = passing (is_live known) (number_from w64)
+live_session_from known = with_test (is_live known) (number_from w64)
 
 -- whether a number is above the last one run in a session
 abbrev pub is_above : Option ℕ → ℕ → Bool
@@ -34,7 +34,7 @@ is_above (Some last) number = nat_lt last number
 
 -- the number of a request that runs in a session
 abbrev pub new_number_from : Known → ℕ → List ℕ → Result (ℕ × List ℕ) Fault
-new_number_from known session = passing (is_above (number_in known.live session)) (number_from w32)
+new_number_from known session = with_test (is_above (number_in known.live session)) (number_from w32)
 
 -- an item behind its kind
 abbrev pub meta_rest_from : Known → MetaKind → List ℕ → Result (MetaItem × List ℕ) Fault

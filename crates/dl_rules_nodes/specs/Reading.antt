@@ -3,8 +3,8 @@ use Rattle.std.specs.Prelude.{ℕ, zero, suc, ◌+◌, ◌-◌, ◌==◌, ◌||�
 use Rattle.std.specs.Int.{w32, w64}
 use Rattle.dl_fields.specs.declared.fault.Fault.{Fault}
 use Rattle.dl_fields.specs.declared.fault.Fault.TheVariants.{Short, Bad, Long}
-use Rattle.dl_fields.specs.Readers.{◌>>=◌, then_at, map_at, flawless}
-use Rattle.dl_fields.specs.Fields.{number_from, counted_from}
+use Rattle.dl_fields.specs.Readers.{◌>>=◌, then_at, map_at, without_flaw}
+use Rattle.dl_fields.specs.Fields.{number_from, counted_field_from}
 use Rattle.dl_fields.specs.Codes.{code_from}
 use Rattle.dl_record.specs.declared.entry_flaw.EntryFlaw.{EntryFlaw}
 use Rattle.dl_record.specs.declared.entry_flaw.EntryFlaw.TheVariants as flaws
@@ -36,7 +36,7 @@ entry_flaw bytes = left_at (length bytes) (entry_at bytes)
 
 -- an entry behind its length
 abbrev pub entry_from : List ℕ → Result (List ℕ × List ℕ) Fault
-entry_from = flawless entry_flaw (counted_from w32)
+entry_from = without_flaw entry_flaw (counted_field_from w32)
 
 -- ---- an item
 

@@ -3,7 +3,7 @@ use Rattle.std.specs.Prelude.{ℕ, List}
 use Rattle.dl_quorum.specs.Sizes.{Sizes}
 use Rattle.dl_formats.specs.declared.conf.Conf.{Conf}
 use Rattle.dl_formats.specs.declared.ledger.LedgerState.{LedgerState}
-use Rattle.dl_formats.specs.NodeBytes.{versioned, ledger_fields}
+use Rattle.dl_formats.specs.NodeBytes.{with_version, ledger_fields}
 
 -- How far the ledger has come, how its entries are replicated, and how many it has once it is closed.
 pub record LedgerNode : Type 0 where
@@ -17,7 +17,7 @@ node_with state q count = record { state = state; q = q; count = count }
 
 -- its bytes
 abbrev pub node_bytes : LedgerNode → List ℕ
-node_bytes n = versioned (ledger_fields (record { state = n.state; e = n.q.e; qw = n.q.qw; qa = n.q.qa; count = n.count }))
+node_bytes n = with_version (ledger_fields (record { state = n.state; e = n.q.e; qw = n.q.qw; qa = n.q.qa; count = n.count }))
 
 -- the sizes of new ledgers
 abbrev pub new_sizes : Conf → Sizes

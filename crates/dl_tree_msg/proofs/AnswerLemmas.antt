@@ -3,7 +3,7 @@ use Rattle.std.proofs.Common.{◌≡◌, ℕ, List, length, refl, ap}
 use Rattle.std.specs.List.{AllByRecursion}
 use Rattle.std.specs.Int.{w16, w32, w64}
 use Rattle.dl_fields.specs.Readers.{Exact}
-use Rattle.dl_fields.specs.Fields.{number_from, Fits, counted, IsCounted}
+use Rattle.dl_fields.specs.Fields.{number_from, Fits, counted_field, IsCounted}
 use Rattle.dl_fields.specs.Lists.{list_bytes}
 use Rattle.dl_fields.specs.Paths.{IsPart, IsPathField, name_from}
 use Rattle.dl_fields.proofs.ReaderLemmas.{made_exact}
@@ -22,7 +22,8 @@ use Rattle.dl_tree_msg.specs.declared.answer_kind.OutcomeKind.{OutcomeKind}
 use Rattle.dl_tree_msg.specs.declared.answer_kind.OutcomeKind.TheVariants as outcome
 use Rattle.dl_tree_msg.specs.declared.answer_kind.WhyKind.{WhyKind}
 use Rattle.dl_tree_msg.specs.declared.answer_kind.WhyKind.TheVariants as reason
-use Rattle.dl_tree_msg.specs.Answers.{why_kind, why_rest, why_bytes, IsWhy, answer_kind, answer_rest, answer_bytes, IsAnswer, outcome_kind, outcome_rest, outcome_bytes, IsOutcome}
+use Rattle.dl_tree_msg.specs.Answers.{why_kind, why_rest, why_bytes, IsWhy, answer_kind, answer_rest, answer_bytes}
+use Rattle.dl_tree_msg.specs.Answers.{IsAnswer, outcome_kind, outcome_rest, outcome_bytes, IsOutcome}
 use Rattle.dl_tree_msg.specs.AnswerReading.{why_rest_from, why_from, names_from, answer_rest_from, answer_from, answers_from, outcome_rest_from, outcome_from}
 use Rattle.dl_fields.proofs.KindLemmas.{also_exact, nothing_exact, kinded_exact}
 use Rattle.dl_tree_msg.proofs.KindLemmas.{why_kind_exact, answer_kind_exact, outcome_kind_exact}
@@ -77,8 +78,8 @@ abbrev IsAnswerOf : AnswerKind → OneAnswer → Type 0
 IsAnswerOf k a = IsAnswer a × (answer_kind a ≡ k)
 
 -- names behind their count are read exactly
-names_exact : Exact (λ names. Fits w32 (length names) × AllByRecursion IsPart names) (list_bytes w32 (counted w16)) names_from
-names_exact = list_exact IsPart (counted w16) name_from name_exact (Fits w32) w32 (number_from w32) u32_exact
+names_exact : Exact (λ names. Fits w32 (length names) × AllByRecursion IsPart names) (list_bytes w32 (counted_field w16)) names_from
+names_exact = list_exact IsPart (counted_field w16) name_from name_exact (Fits w32) w32 (number_from w32) u32_exact
 
 -- what stands behind a kind of answer is read exactly
 answer_rest_exact : (k : AnswerKind) → Exact (IsAnswerOf k) answer_rest (answer_rest_from k)

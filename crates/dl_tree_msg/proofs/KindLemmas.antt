@@ -19,7 +19,8 @@ use Rattle.dl_tree_msg.specs.declared.answer_kind.OutcomeKind.{OutcomeKind}
 use Rattle.dl_tree_msg.specs.declared.answer_kind.OutcomeKind.TheVariants as outcome
 use Rattle.dl_tree_msg.specs.declared.answer_kind.WhyKind.{WhyKind}
 use Rattle.dl_tree_msg.specs.declared.answer_kind.WhyKind.TheVariants as reason
-use Rattle.dl_tree_msg.specs.Kinds.{op_code, op_kinds, request_code, request_kinds, mode_field_code, mode_field, mode_fields, answer_code, answer_kinds, outcome_code, outcome_kinds, why_code, why_kinds}
+use Rattle.dl_tree_msg.specs.Kinds.{op_code, op_kinds, request_code, request_kinds, mode_field_code, mode_field, mode_fields}
+use Rattle.dl_tree_msg.specs.Kinds.{answer_code, answer_kinds, outcome_code, outcome_kinds, why_code, why_kinds}
 use Rattle.dl_tree_msg.specs.Versions.{is_named, version_rest, version_bytes, IsVersion, version_rest_from, version_from}
 
 -- each of them is of the list, by its code

@@ -5,10 +5,10 @@ use Rattle.std.specs.List.{AllByRecursion}
 use Rattle.std.specs.Int.{w16, w32}
 use Rattle.dl_codec.specs.Fields.{field}
 use Rattle.dl_fields.specs.Readers.{Exact}
-use Rattle.dl_fields.specs.Fields.{number_from, Fits, counted, IsCounted}
+use Rattle.dl_fields.specs.Fields.{number_from, Fits, counted_field, IsCounted}
 use Rattle.dl_fields.specs.Lists.{list_bytes}
 use Rattle.dl_fields.specs.Paths.{IsPathField, path_from}
-use Rattle.dl_fields.proofs.ReaderLemmas.{then_exact, made_exact, passing_exact}
+use Rattle.dl_fields.proofs.ReaderLemmas.{then_exact, made_exact, with_test_exact}
 use Rattle.dl_fields.proofs.FieldLemmas.{u16_exact, run32_exact}
 use Rattle.dl_fields.proofs.ListLemmas.{list_exact}
 use Rattle.dl_fields.proofs.PathLemmas.{path_exact, stem_exact, exact_as}
@@ -25,8 +25,10 @@ use Rattle.dl_tree_msg.specs.declared.op_kind.RequestKind.TheVariants as request
 use Rattle.dl_tree_msg.specs.Versions.{IsVersion}
 use Rattle.dl_tree_msg.specs.declared.rule.PathRule.TheVariants.{All}
 use Rattle.dl_tree_msg.specs.Rules.{allows}
-use Rattle.dl_tree_msg.specs.Requests.{op_kind, op_rest, op_bytes, IsNewPath, IsOp, IsOpAllowed, request_kind, request_rest, request_bytes, IsOpCount, IsRequest, IsAllowed}
-use Rattle.dl_tree_msg.specs.RequestReading.{new_path_from, allowed_path_from, create_from, delete_from, set_from, check_from, get_from, children_from, op_rest_from, op_from, op_count_from, ops_from, request_rest_from, request_from}
+use Rattle.dl_tree_msg.specs.Requests.{op_kind, op_rest, op_bytes, IsNewPath, IsOp, IsOpAllowed, request_kind}
+use Rattle.dl_tree_msg.specs.Requests.{request_rest, request_bytes, IsOpCount, IsRequest, IsAllowed}
+use Rattle.dl_tree_msg.specs.RequestReading.{new_path_from, allowed_path_from, create_from, delete_from, set_from, check_from, get_from}
+use Rattle.dl_tree_msg.specs.RequestReading.{children_from, op_rest_from, op_from, op_count_from, ops_from, request_rest_from, request_from}
 use Rattle.dl_fields.proofs.KindLemmas.{also_exact, kinded_exact}
 use Rattle.dl_tree_msg.proofs.KindLemmas.{op_kind_exact, request_kind_exact, mode_exact, version_exact}
 
@@ -45,15 +47,15 @@ abbrev IsPathIn : (List ℕ → Bool) → List ℕ → Type 0
 IsPathIn t path = IsPathField path × (t path ≡ true)
 
 -- the path of a creation
-new_path_exact : (m : Mode) → Exact (IsNewPath m) (counted w16) (new_path_from m)
+new_path_exact : (m : Mode) → Exact (IsNewPath m) (counted_field w16) (new_path_from m)
 new_path_exact mode.Lasting = path_exact
 new_path_exact mode.Ephemeral = path_exact
 new_path_exact mode.Counted = stem_exact
 new_path_exact mode.EphemeralCounted = stem_exact
 
 -- the path of a deletion or a set
-allowed_path_exact : (t : List ℕ → Bool) → Exact (IsPathIn t) (counted w16) (allowed_path_from t)
-allowed_path_exact t = passing_exact IsPathField (counted w16) path_from t path_exact
+allowed_path_exact : (t : List ℕ → Bool) → Exact (IsPathIn t) (counted_field w16) (allowed_path_from t)
+allowed_path_exact t = with_test_exact IsPathField (counted_field w16) path_from t path_exact
 
 -- a creation
 create_exact : (t : List ℕ → Bool) → Exact (IsOpOf t op.Create) op_rest create_from
@@ -126,7 +128,7 @@ op_exact t = kinded_exact op_kind (IsOpIn t) op_rest (op_rest_from t) op_kind_ex
 
 -- a count of operations
 op_count_exact : Exact IsOpCount (field w16) op_count_from
-op_count_exact = exact_as (passing_exact (Fits w16) (field w16) (number_from w16) (λ n. not (eqb n 0)) u16_exact)
+op_count_exact = exact_as (with_test_exact (Fits w16) (field w16) (number_from w16) (λ n. not (eqb n 0)) u16_exact)
     (λ n v. let t = v.1 in (v.0, grind (arith, nat_tests))) (λ n v. let t = v.1 in (v.0, grind (arith, nat_tests)))
 
 -- what each item has of two properties

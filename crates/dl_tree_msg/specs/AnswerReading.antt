@@ -9,7 +9,7 @@ use Rattle.dl_types.specs.declared.meta_answer.MetaAnswer.{MetaAnswer}
 use Rattle.dl_types.specs.declared.meta_answer.MetaAnswer.TheVariants as meta
 use Rattle.dl_fields.specs.declared.fault.Fault.{Fault}
 use Rattle.dl_fields.specs.Readers.{then_at, map_at, nothing_from}
-use Rattle.dl_fields.specs.Fields.{number_from, counted_from}
+use Rattle.dl_fields.specs.Fields.{number_from, counted_field_from}
 use Rattle.dl_fields.specs.Codes.{code_from}
 use Rattle.dl_fields.specs.Lists.{list_from}
 use Rattle.dl_fields.specs.Paths.{path_from, name_from}
@@ -47,7 +47,7 @@ abbrev pub answer_rest_from : AnswerKind → List ℕ → Result (OneAnswer × L
 answer_rest_from answer.Made = map_at one.Made path_from
 answer_rest_from answer.Done = nothing_from one.Done
 answer_rest_from answer.Version = map_at one.Version (number_from w64)
-answer_rest_from answer.Bytes = map_at (λ (bytes, version). one.Bytes bytes version) (then_at (counted_from w32) (λ bytes. number_from w64))
+answer_rest_from answer.Bytes = map_at (λ (bytes, version). one.Bytes bytes version) (then_at (counted_field_from w32) (λ bytes. number_from w64))
 answer_rest_from answer.Names = map_at one.Names names_from
 
 -- an answer to one operation

@@ -9,7 +9,7 @@ use Rattle.dl_types.specs.declared.one_answer.OneAnswer.{OneAnswer}
 use Rattle.dl_types.specs.declared.one_answer.OneAnswer.TheVariants as one
 use Rattle.dl_types.specs.declared.meta_answer.MetaAnswer.{MetaAnswer}
 use Rattle.dl_types.specs.declared.meta_answer.MetaAnswer.TheVariants as meta
-use Rattle.dl_fields.specs.Fields.{Fits, counted, IsCounted}
+use Rattle.dl_fields.specs.Fields.{Fits, counted_field, IsCounted}
 use Rattle.dl_fields.specs.Codes.{code_byte}
 use Rattle.dl_fields.specs.Lists.{list_bytes}
 use Rattle.dl_fields.specs.Paths.{IsPart, IsPathField}
@@ -66,11 +66,11 @@ answer_kind (one.Names names) = answer.Names
 
 -- an answer behind its kind
 abbrev pub answer_rest : OneAnswer → List ℕ
-answer_rest (one.Made path) = counted w16 path
+answer_rest (one.Made path) = counted_field w16 path
 answer_rest one.Done = []
 answer_rest (one.Version version) = field w64 version
-answer_rest (one.Bytes bytes version) = counted w32 bytes ++ field w64 version
-answer_rest (one.Names names) = list_bytes w32 (counted w16) names
+answer_rest (one.Bytes bytes version) = counted_field w32 bytes ++ field w64 version
+answer_rest (one.Names names) = list_bytes w32 (counted_field w16) names
 
 -- the spelling of an answer to one operation
 abbrev pub answer_bytes : OneAnswer → List ℕ

@@ -8,8 +8,8 @@ use Rattle.dl_types.specs.declared.one_op.OneOp.TheVariants as one
 use Rattle.dl_types.specs.declared.meta_op.MetaOp.{MetaOp}
 use Rattle.dl_types.specs.declared.meta_op.MetaOp.TheVariants as meta
 use Rattle.dl_fields.specs.declared.fault.Fault.{Fault}
-use Rattle.dl_fields.specs.Readers.{then_at, map_at, passing}
-use Rattle.dl_fields.specs.Fields.{number_from, counted_from}
+use Rattle.dl_fields.specs.Readers.{then_at, map_at, with_test}
+use Rattle.dl_fields.specs.Fields.{number_from, counted_field_from}
 use Rattle.dl_fields.specs.Codes.{code_from}
 use Rattle.dl_fields.specs.Lists.{list_from}
 use Rattle.dl_fields.specs.Paths.{path_from, stem_from}
@@ -35,12 +35,12 @@ new_path_from mode.EphemeralCounted = stem_from
 
 -- the path of a node to be deleted or set; one that fails the test is bad at the first byte of its length
 abbrev pub allowed_path_from : (List ℕ → Bool) → List ℕ → Result (List ℕ × List ℕ) Fault
-allowed_path_from allowed = passing allowed path_from
+allowed_path_from allowed = with_test allowed path_from
 
 -- a creation
 abbrev pub create_from : List ℕ → Result (OneOp × List ℕ) Fault
 create_from = map_at (λ (mode, (path, bytes)). one.Create path bytes mode)
-    (then_at mode_from (λ m. then_at (new_path_from m) (λ path. counted_from w32)))
+    (then_at mode_from (λ m. then_at (new_path_from m) (λ path. counted_field_from w32)))
 
 -- a deletion
 abbrev pub delete_from : (List ℕ → Bool) → List ℕ → Result (OneOp × List ℕ) Fault
@@ -50,7 +50,7 @@ delete_from allowed = map_at (λ (path, version). one.Delete path version)
 -- a set
 abbrev pub set_from : (List ℕ → Bool) → List ℕ → Result (OneOp × List ℕ) Fault
 set_from allowed = map_at (λ (path, (bytes, version)). one.Set path bytes version)
-    (then_at (allowed_path_from allowed) (λ path. then_at (counted_from w32) (λ bytes. version_from)))
+    (then_at (allowed_path_from allowed) (λ path. then_at (counted_field_from w32) (λ bytes. version_from)))
 
 -- a check
 abbrev pub check_from : List ℕ → Result (OneOp × List ℕ) Fault
@@ -81,7 +81,7 @@ op_from allowed = map_at (λ (kind, op). op) (then_at (code_from op_code op_kind
 
 -- a count of operations: at least one
 abbrev pub op_count_from : List ℕ → Result (ℕ × List ℕ) Fault
-op_count_from = passing (λ n. not (n == 0)) (number_from w16)
+op_count_from = with_test (λ n. not (n == 0)) (number_from w16)
 
 -- operations behind their count
 abbrev pub ops_from : (List ℕ → Bool) → List ℕ → Result (List OneOp × List ℕ) Fault

@@ -8,7 +8,7 @@ use Rattle.dl_types.specs.declared.one_op.OneOp.{OneOp}
 use Rattle.dl_types.specs.declared.one_op.OneOp.TheVariants as one
 use Rattle.dl_types.specs.declared.meta_op.MetaOp.{MetaOp}
 use Rattle.dl_types.specs.declared.meta_op.MetaOp.TheVariants as meta
-use Rattle.dl_fields.specs.Fields.{Fits, counted, IsCounted}
+use Rattle.dl_fields.specs.Fields.{Fits, counted_field, IsCounted}
 use Rattle.dl_fields.specs.Codes.{code_byte}
 use Rattle.dl_fields.specs.Lists.{list_bytes}
 use Rattle.dl_fields.specs.Paths.{IsPathField, IsStemField}
@@ -32,12 +32,12 @@ op_kind (one.Children path) = op.Children
 
 -- an operation behind its kind
 abbrev pub op_rest : OneOp → List ℕ
-op_rest (one.Create path bytes m) = code_byte mode_field_code (mode_field m) ++ (counted w16 path ++ counted w32 bytes)
-op_rest (one.Delete path version) = counted w16 path ++ version_bytes version
-op_rest (one.Set path bytes version) = counted w16 path ++ (counted w32 bytes ++ version_bytes version)
-op_rest (one.Check path version) = counted w16 path ++ version_bytes version
-op_rest (one.Get path) = counted w16 path
-op_rest (one.Children path) = counted w16 path
+op_rest (one.Create path bytes m) = code_byte mode_field_code (mode_field m) ++ (counted_field w16 path ++ counted_field w32 bytes)
+op_rest (one.Delete path version) = counted_field w16 path ++ version_bytes version
+op_rest (one.Set path bytes version) = counted_field w16 path ++ (counted_field w32 bytes ++ version_bytes version)
+op_rest (one.Check path version) = counted_field w16 path ++ version_bytes version
+op_rest (one.Get path) = counted_field w16 path
+op_rest (one.Children path) = counted_field w16 path
 
 -- the spelling of an operation
 abbrev pub op_bytes : OneOp → List ℕ

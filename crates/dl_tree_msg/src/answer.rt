@@ -1,15 +1,17 @@
-ghost use Rattle.std.specs.Prelude.{◌≡◌, ◌≤◌, ◌<◌, ◌*◌, ◌++◌, length, IfOk, OnOk, All};
-ghost use Rattle.std.specs.List.{flat_map};
-ghost use Rattle.std.specs.Int.{w16, w32};
+ghost use Rattle.std.specs.Prelude.{◌≡◌, ◌≤◌, ◌++◌, length, IfOk, OnOk};
+ghost use Rattle.std.specs.Int.{w16};
 ghost use Rattle.dl_fields.specs.Readers.{Gives, Reads};
-ghost use Rattle.dl_fields.specs.Fields.{counted, IsCounted};
+ghost use Rattle.dl_fields.specs.Fields.{counted_field};
 ghost use Rattle.dl_fields.specs.Outputs.{Puts};
 ghost use Rattle.dl_fields.specs.Paths.{IsPart, name_from};
-ghost use Rattle.dl_tree_msg.specs.Answers.{why_rest, why_bytes, IsWhy, answer_rest, answer_bytes, IsAnswer, outcome_rest, outcome_bytes, IsOutcome};
+ghost use Rattle.dl_tree_msg.specs.Answers.{why_rest, why_bytes, answer_rest, answer_bytes};
+ghost use Rattle.dl_tree_msg.specs.Answers.{IsAnswer, outcome_rest, outcome_bytes, IsOutcome};
 ghost use Rattle.dl_tree_msg.specs.Sizes.{max_name, max_answer_rest, max_answer, max_outcome};
-ghost use Rattle.dl_tree_msg.specs.AnswerReading.{why_rest_from, why_from, names_from, answer_rest_from, answer_from, answers_from, outcome_rest_from, outcome_from};
+ghost use Rattle.dl_tree_msg.specs.AnswerReading.{why_rest_from, why_from, names_from, answer_rest_from};
+ghost use Rattle.dl_tree_msg.specs.AnswerReading.{answer_from, answers_from, outcome_rest_from, outcome_from};
 
 use crate::answer_kind::{AnswerKind, OutcomeKind, WhyKind};
+use crate::items::{Item, put_items, size_of_items};
 use dl_codec::write::{put_u8, put_u16, put_u32, put_u64};
 use dl_fields::code::{Code, read_code};
 use dl_fields::fault::Fault;
@@ -206,15 +208,21 @@ fn put_why(alloc: Global, out: &mut Vec<u8>, why: &Why) -> Result<(), NoMemory>
     put_why_rest(alloc, out, why)
 }
 
-/// Adds names without their count.
-fn put_name_items(alloc: Global, out: &mut Vec<u8>, names: &[Path]) -> Result<(), NoMemory>
-    requires { All (IsCounted w16) names.now }
-    ensures { OnOk result (out.new.items ≡ out.old.items ++ flat_map (counted w16) names.now) }
-{
-    for name in names {
-        put_run_u16(alloc, out, name.as_slice())?;
+/// A name of a listing.
+impl Item for Path {
+    ghost valid = { IsPart };
+
+    ghost spelling = { counted_field w16 };
+
+    ghost most = { max_name };
+
+    fn put_item(&self, alloc: Global, out: &mut Vec<u8>) -> Result<(), NoMemory> {
+        put_run_u16(alloc, out, self.as_slice())
     }
-    Ok(())
+
+    fn size_of_item(&self) -> u64 {
+        size_of_run_u16(self.as_slice())
+    }
 }
 
 /// Adds an answer to one operation behind its kind.
@@ -233,30 +241,9 @@ fn put_answer_rest(alloc: Global, out: &mut Vec<u8>, answer: &OneAnswer) -> Resu
         OneAnswer::Names(names) => {
             let names = names.as_slice();
             put_u32(alloc, out, names.len() as u32)?;
-            put_name_items(alloc, out, names)
+            put_items(alloc, out, names)
         }
     }
-}
-
-/// Adds an answer to one operation.
-fn put_one_answer(alloc: Global, out: &mut Vec<u8>, answer: &OneAnswer) -> Result<(), NoMemory>
-    requires { IsAnswer answer.now }
-    ensures { OnOk result (out.new.items ≡ out.old.items ++ answer_bytes answer.now) }
-{
-    let kind = AnswerKind::of(answer);
-    put_u8(alloc, out, kind.code())?;
-    put_answer_rest(alloc, out, answer)
-}
-
-/// Adds answers without their count.
-fn put_answer_items(alloc: Global, out: &mut Vec<u8>, answers: &[OneAnswer]) -> Result<(), NoMemory>
-    requires { All IsAnswer answers.now }
-    ensures { OnOk result (out.new.items ≡ out.old.items ++ flat_map answer_bytes answers.now) }
-{
-    for answer in answers {
-        put_one_answer(alloc, out, answer)?;
-    }
-    Ok(())
 }
 
 /// Adds an answer to a request behind its kind.
@@ -269,7 +256,7 @@ fn put_outcome_rest(alloc: Global, out: &mut Vec<u8>, answer: &MetaAnswer) -> Re
         MetaAnswer::Many(answers) => {
             let answers = answers.as_slice();
             put_u16(alloc, out, answers.len() as u16)?;
-            put_answer_items(alloc, out, answers)
+            put_items(alloc, out, answers)
         }
         MetaAnswer::Failed { place, why } => {
             put_u16(alloc, out, *place)?;
@@ -315,29 +302,6 @@ fn size_of_why(why: &Why) -> u64
     }
 }
 
-/// How many bytes a name has, behind its length and with it.
-fn size_of_name(name: &Path) -> u64
-    requires { IsPart name.now }
-    ensures exact { result ≡ length (counted w16 name.now) }
-    ensures bound { result ≤ max_name }
-{
-    size_of_run_u16(name.as_slice())
-}
-
-/// How many bytes names have without their count.
-fn size_of_name_items(names: &[Path]) -> u64
-    requires valid { All IsPart names.now }
-    requires few { length names.now < 4294967296 }
-    ensures exact { result ≡ length (flat_map (counted w16) names.now) }
-    ensures bound { result ≤ 4294967295 * max_name }
-{
-    let mut total = 0;
-    for name in names {
-        total += size_of_name(name);
-    }
-    total
-}
-
 /// How many bytes an answer to one operation has behind its kind.
 #[tactic(auto, using(dl_fields::proofs::SizeLemmas::sizes))]
 fn size_of_answer_rest(answer: &OneAnswer) -> u64
@@ -350,32 +314,27 @@ fn size_of_answer_rest(answer: &OneAnswer) -> u64
         OneAnswer::Done => 0,
         OneAnswer::Version(_) => 8,
         OneAnswer::Bytes { bytes, .. } => size_of_run_u32(bytes.as_slice()) + 8,
-        OneAnswer::Names(names) => size_of_name_items(names.as_slice()) + 4,
+        OneAnswer::Names(names) => size_of_items(names.as_slice()) + 4,
     }
 }
 
-/// How many bytes an answer to one operation has.
-#[tactic(auto, using(dl_fields::proofs::SizeLemmas::sizes))]
-fn size_of_one_answer(answer: &OneAnswer) -> u64
-    requires { IsAnswer answer.now }
-    ensures exact { result ≡ length (answer_bytes answer.now) }
-    ensures bound { result ≤ max_answer }
-{
-    size_of_answer_rest(answer) + 1
-}
+impl Item for OneAnswer {
+    ghost valid = { IsAnswer };
 
-/// How many bytes answers have without their count.
-fn size_of_answer_items(answers: &[OneAnswer]) -> u64
-    requires valid { All IsAnswer answers.now }
-    requires few { length answers.now < 65536 }
-    ensures exact { result ≡ length (flat_map answer_bytes answers.now) }
-    ensures bound { result ≤ 65535 * max_answer }
-{
-    let mut total = 0;
-    for answer in answers {
-        total += size_of_one_answer(answer);
+    ghost spelling = { answer_bytes };
+
+    ghost most = { max_answer };
+
+    fn put_item(&self, alloc: Global, out: &mut Vec<u8>) -> Result<(), NoMemory> {
+        let kind = AnswerKind::of(self);
+        put_u8(alloc, out, kind.code())?;
+        put_answer_rest(alloc, out, self)
     }
-    total
+
+    #[tactic(auto, using(dl_fields::proofs::SizeLemmas::sizes))]
+    fn size_of_item(&self) -> u64 {
+        size_of_answer_rest(self) + 1
+    }
 }
 
 /// How many bytes an answer to a request on the metadata tree has.
@@ -386,8 +345,8 @@ pub fn size_of_answer(answer: &MetaAnswer) -> u64
     ensures bound { result ≤ max_outcome }
 {
     match answer {
-        MetaAnswer::One(answer) => size_of_one_answer(answer),
-        MetaAnswer::Many(answers) => size_of_answer_items(answers.as_slice()) + 3,
+        MetaAnswer::One(answer) => answer.size_of_item(),
+        MetaAnswer::Many(answers) => size_of_items(answers.as_slice()) + 3,
         MetaAnswer::Failed { why, .. } => size_of_why(why) + 3,
     }
 }

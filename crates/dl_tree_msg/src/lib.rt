@@ -3,6 +3,7 @@
 
 pub mod answer;
 mod answer_kind;
+mod items;
 pub mod laws;
 mod op_kind;
 pub mod request;

@@ -1,16 +1,20 @@
-ghost use Rattle.std.specs.Prelude.{◌≡◌, ◌≤◌, ◌<◌, ◌*◌, ◌++◌, length, IfOk, OnOk, All};
-ghost use Rattle.std.specs.List.{flat_map};
+ghost use Rattle.std.specs.Prelude.{◌≡◌, ◌≤◌, ◌++◌, length, IfOk, OnOk};
 ghost use Rattle.std.specs.Int.{w16, w32};
 ghost use Rattle.dl_fields.specs.Readers.{Gives, Reads};
-ghost use Rattle.dl_fields.specs.Fields.{counted, IsCounted};
+ghost use Rattle.dl_fields.specs.Fields.{counted_field, IsCounted};
 ghost use Rattle.dl_fields.specs.Codes.{code_byte};
 ghost use Rattle.dl_fields.specs.Outputs.{Puts};
 ghost use Rattle.dl_tree_msg.specs.Kinds.{mode_field_code, mode_field};
 ghost use Rattle.dl_tree_msg.specs.Rules.{allows};
-ghost use Rattle.dl_tree_msg.specs.Requests.{op_rest, op_bytes, IsNewPath, IsOp, request_rest, request_bytes, IsRequest, IsAllowed};
+ghost use Rattle.dl_tree_msg.specs.Requests.{op_rest, op_bytes, IsNewPath, IsOp, request_rest};
+ghost use Rattle.dl_tree_msg.specs.Requests.{request_bytes, IsRequest, IsAllowed};
 ghost use Rattle.dl_tree_msg.specs.Sizes.{max_op_rest, max_op, max_request};
-ghost use Rattle.dl_tree_msg.specs.RequestReading.{mode_from, new_path_from, allowed_path_from, create_from, delete_from, set_from, check_from, get_from, children_from, op_rest_from, op_from, op_count_from, ops_from, request_rest_from, request_from};
+ghost use Rattle.dl_tree_msg.specs.RequestReading.{mode_from, new_path_from, allowed_path_from, create_from};
+ghost use Rattle.dl_tree_msg.specs.RequestReading.{delete_from, set_from, check_from, get_from, children_from};
+ghost use Rattle.dl_tree_msg.specs.RequestReading.{op_rest_from, op_from, op_count_from, ops_from, request_rest_from};
+ghost use Rattle.dl_tree_msg.specs.RequestReading.{request_from};
 
+use crate::items::{Item, put_items, size_of_items};
 use crate::op_kind::{ModeField, OpKind, RequestKind};
 use crate::rule::PathRule;
 use crate::version::{put_version, read_version, size_of_version};
@@ -246,8 +250,8 @@ fn put_create(
     requires path { IsNewPath mode path.now }
     requires bytes { IsCounted w32 bytes.now }
     ensures { OnOk result (out.new.items ≡ out.old.items
-        ++ (code_byte mode_field_code (mode_field mode) ++ (counted w16 path.now
-        ++ counted w32 bytes.now))) }
+        ++ (code_byte mode_field_code (mode_field mode) ++ (counted_field w16 path.now
+        ++ counted_field w32 bytes.now))) }
 {
     let field = ModeField { mode };
     put_u8(alloc, out, field.code())?;
@@ -284,27 +288,6 @@ fn put_op_rest(alloc: Global, out: &mut Vec<u8>, op: &OneOp) -> Result<(), NoMem
     }
 }
 
-/// Adds an operation.
-fn put_one_op(alloc: Global, out: &mut Vec<u8>, op: &OneOp) -> Result<(), NoMemory>
-    requires { IsOp op.now }
-    ensures { OnOk result (out.new.items ≡ out.old.items ++ op_bytes op.now) }
-{
-    let kind = OpKind::of(op);
-    put_u8(alloc, out, kind.code())?;
-    put_op_rest(alloc, out, op)
-}
-
-/// Adds operations without their count.
-fn put_op_items(alloc: Global, out: &mut Vec<u8>, ops: &[OneOp]) -> Result<(), NoMemory>
-    requires { All IsOp ops.now }
-    ensures { OnOk result (out.new.items ≡ out.old.items ++ flat_map op_bytes ops.now) }
-{
-    for op in ops {
-        put_one_op(alloc, out, op)?;
-    }
-    Ok(())
-}
-
 /// Adds a request behind its kind.
 fn put_request_rest(alloc: Global, out: &mut Vec<u8>, op: &MetaOp) -> Result<(), NoMemory>
     requires { IsRequest op.now }
@@ -315,7 +298,7 @@ fn put_request_rest(alloc: Global, out: &mut Vec<u8>, op: &MetaOp) -> Result<(),
         MetaOp::Multi { ops } => {
             let ops = ops.as_slice();
             put_u16(alloc, out, ops.len() as u16)?;
-            put_op_items(alloc, out, ops)
+            put_items(alloc, out, ops)
         }
     }
 }
@@ -347,8 +330,8 @@ fn size_of_create(path: &Path, bytes: &Body, mode: Mode) -> u64
     requires path { IsNewPath mode path.now }
     requires bytes { IsCounted w32 bytes.now }
     ensures exact { result ≡ length (code_byte mode_field_code (mode_field mode)
-        ++ (counted w16 path.now
-        ++ counted w32 bytes.now)) }
+        ++ (counted_field w16 path.now
+        ++ counted_field w32 bytes.now)) }
     ensures bound { result ≤ max_op_rest }
 {
     size_of_run_u16(path.as_slice()) + size_of_run_u32(bytes.as_slice()) + 1
@@ -379,28 +362,23 @@ fn size_of_op_rest(op: &OneOp) -> u64
     }
 }
 
-/// How many bytes an operation has.
-#[tactic(auto, using(dl_fields::proofs::SizeLemmas::sizes))]
-fn size_of_one_op(op: &OneOp) -> u64
-    requires { IsOp op.now }
-    ensures exact { result ≡ length (op_bytes op.now) }
-    ensures bound { result ≤ max_op }
-{
-    size_of_op_rest(op) + 1
-}
+impl Item for OneOp {
+    ghost valid = { IsOp };
 
-/// How many bytes operations have without their count.
-fn size_of_op_items(ops: &[OneOp]) -> u64
-    requires valid { All IsOp ops.now }
-    requires few { length ops.now < 65536 }
-    ensures exact { result ≡ length (flat_map op_bytes ops.now) }
-    ensures bound { result ≤ 65535 * max_op }
-{
-    let mut total = 0;
-    for op in ops {
-        total += size_of_one_op(op);
+    ghost spelling = { op_bytes };
+
+    ghost most = { max_op };
+
+    fn put_item(&self, alloc: Global, out: &mut Vec<u8>) -> Result<(), NoMemory> {
+        let kind = OpKind::of(self);
+        put_u8(alloc, out, kind.code())?;
+        put_op_rest(alloc, out, self)
     }
-    total
+
+    #[tactic(auto, using(dl_fields::proofs::SizeLemmas::sizes))]
+    fn size_of_item(&self) -> u64 {
+        size_of_op_rest(self) + 1
+    }
 }
 
 /// How many bytes a request on the metadata tree has.
@@ -411,7 +389,7 @@ pub fn size_of_request(op: &MetaOp) -> u64
     ensures bound { result ≤ max_request }
 {
     match op {
-        MetaOp::One(op) => size_of_one_op(op),
-        MetaOp::Multi { ops } => size_of_op_items(ops.as_slice()) + 3,
+        MetaOp::One(op) => op.size_of_item(),
+        MetaOp::Multi { ops } => size_of_items(ops.as_slice()) + 3,
     }
 }

@@ -13,7 +13,7 @@ returns-in_err-stored c =
 
 pub loop-preserved : goal.loop-preserved
 loop-preserved c = record {
-  same = rw (c.in_ok-push.ensures.items, c.behind.ensures)
+  same = rw (c.in_ok-push.ensures.items, c.behind_of.ensures)
       (records_go_on c.loop.records.items c.args.count c.loop.counter
       (eqb c.args.count 1) c.loop.before c.args.bytes.now c.loop.at c.in_ok-stored.end c.in_ok-stored.stored
       (records_at c.args.count (eqb c.args.count 1) None c.args.bytes.now 8) c.loop-test.true c.in_ok-stored.ensures.exact c.loop.invariant.same);
