@@ -1,0 +1,24 @@
+-- What a task answers, by what its order does next.
+use Rattle.dl_msg.specs.declared.turn.Turn.{Turn}
+use Rattle.dl_msg.specs.declared.turn.Turn.TheVariants as turn
+use Rattle.dl_rules_stream.specs.Requests.{op_of}
+use Rattle.dl_rules_stream.specs.Orders.{Next, Wait, Ask, Tell, Done, Refused}
+use Rattle.dl_requests.specs.declared.moves.Move.{Move}
+use Rattle.dl_requests.specs.declared.moves.Move.TheVariants.{Stays, Goes}
+
+-- the turn of what an order does next: a request is asked as the operation that it is
+abbrev pub turn_of : {A : Type 0} → Next A → Turn A
+turn_of Wait = turn.Wait
+turn_of (Ask request) = turn.Ask (op_of request)
+turn_of (Tell letters) = turn.Tell letters
+turn_of (Done result) = turn.Done result
+turn_of (Refused refusal) = turn.Refused refusal
+
+-- the stage to which an order goes, and the turn of what it does next
+abbrev pub answer_of : {R A : Type 0} → R × Next A → R × Turn A
+answer_of (stage, next) = (stage, turn_of next)
+
+-- what a task's move says, from a stage of its order: the order's stage that it stands for then, and its turn
+abbrev pub move_of : {S R A : Type 0} → (S → R) → R → Move S A → R × Turn A
+move_of stands stage Stays = (stage, turn.Wait)
+move_of stands stage (Goes kept turn) = (stands kept, turn)

@@ -1,0 +1,13 @@
+//! What the tasks over the metadata tree share: the requests of a stream's orders as operations on the tree, and what an
+//! answer that failed means for an order.
+#![tactic(auto)]
+
+mod build;
+pub mod cuts;
+pub mod ledgers;
+pub mod members;
+pub mod moves;
+pub mod numbers;
+pub mod refusals;
+pub mod segments;
+pub mod streams;

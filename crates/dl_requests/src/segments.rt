@@ -1,0 +1,58 @@
+//! Requests on the nodes of a stream's segments.
+
+ghost use Rattle.std.specs.Prelude.{◌≡◌, ◌≤◌, IfOk};
+ghost use Rattle.dl_formats.specs.NodeBytes.{ten_nines};
+ghost use Rattle.dl_formats.specs.declared.segment_name.SegmentName.{SegmentName};
+ghost use Rattle.dl_rules_stream.specs.Listings.{number_of};
+ghost use Rattle.dl_rules_stream.specs.Requests.{GetSegment, DropSegment, segment_key, op_of};
+
+use crate::build::multi;
+use dl_formats::paths::{completed_path, ledger_path, progress_path};
+use dl_formats::segment_name::SegmentName;
+use dl_types::memory::NoMemory;
+use dl_types::meta_op::MetaOp;
+use dl_types::name::Name;
+use dl_types::one_op::OneOp;
+use std::alloc::Global;
+
+/// The request that reads the node of a segment, by its name.
+#[tactic(auto, unfolding(dl_rules_stream::specs::Requests::op_of))]
+pub fn get_segment(alloc: Global, stream: &Name, segment: SegmentName) -> Result<MetaOp, NoMemory>
+    requires { number_of segment ≤ ten_nines }
+    ensures { IfOk result (λ op. op ≡ op_of (GetSegment stream.now segment)) }
+{
+    match segment {
+        SegmentName::Progress { segment } => {
+            let path = progress_path(alloc, stream, segment)?;
+            Ok(MetaOp::One(OneOp::Get { path }))
+        }
+        SegmentName::Completed { segment } => {
+            let path = completed_path(alloc, stream, segment)?;
+            Ok(MetaOp::One(OneOp::Get { path }))
+        }
+    }
+}
+
+/// The request that deletes the node of a completed segment with that of its ledger.
+#[tactic(auto, unfolding(dl_rules_stream::specs::Requests::op_of))]
+pub fn drop_segment(
+    alloc: Global,
+    stream: &Name,
+    segment: u64,
+    ledger: u64,
+) -> Result<MetaOp, NoMemory>
+    requires segment { segment ≤ ten_nines }
+    requires ledger { ledger ≤ ten_nines }
+    ensures { IfOk result (λ op. op ≡ op_of (DropSegment stream.now segment ledger)) }
+{
+    let mut ops = Vec::new(alloc);
+    ops.push(OneOp::Delete {
+        path: completed_path(alloc, stream, segment)?,
+        version: None,
+    })?;
+    ops.push(OneOp::Delete {
+        path: ledger_path(alloc, ledger)?,
+        version: None,
+    })?;
+    Ok(multi(ops))
+}
