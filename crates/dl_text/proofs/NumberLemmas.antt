@@ -1,5 +1,5 @@
 -- Numbers are read exactly.
-use Rattle.std.proofs.Common.{◌≡◌, ◌≢◌, ℕ, suc, zero, ◌+◌, ◌-◌, ◌*◌, ◌/◌, ◌%◌, ◌^◌, ◌≤◌, ◌<◌, Bool, true, false, eqb, leb, not, ◌&&◌, List, [], ◌∷◌, ◌++◌, length, get_or, Result, Ok, Err, ◌⊎◌, inl, inr, refl, sym, ap, subst, ◌∙◌, append_assoc, arith, length-append, lit<}
+use Rattle.std.proofs.Common.{◌≡◌, ◌≢◌, ℕ, suc, zero, ◌+◌, ◌-◌, ◌*◌, ◌/◌, ◌%◌, ◌^◌, ◌≤◌, ◌<◌, Bool, true, false, eqb, leb, not, ◌&&◌, List, [], ◌∷◌, ◌++◌, length, get_or, take, drop, Result, Ok, Err, ◌⊎◌, inl, inr, refl, sym, ap, subst, ◌∙◌, append_assoc, arith, length-append, lit<}
 use Rattle.std.specs.Fmt.{decimal}
 use Rattle.std.specs.Char.{digit_value}
 use Rattle.std.specs.Str.Parse.{AllDigits, digits_value, digits_value_after}
@@ -8,6 +8,7 @@ use Rattle.std.proofs.lemmas.Fmt.{decimal_digit, decimal_step, first_decimal, de
 use Rattle.std.proofs.lemmas.Bool.Decides.{nat_tests}
 use Rattle.std.proofs.lemmas.Bool.{eqb-true, eqb-false, eq-eqb, leb-true, cases_lt, and_parts}
 use Rattle.std.proofs.lemmas.List.{append-nil}
+use Rattle.std.proofs.Math.Seq.{take-append-add}
 use Rattle.std.specs.Prelude.{IfOk}
 use Rattle.dl_text.specs.declared.stop.Stop.{Stop}
 use Rattle.dl_text.specs.Readers.{Gives, shared, Exact}
@@ -258,6 +259,19 @@ digits_within now (Err e) low high end v bytes big from below given = tt
 -- a u64 has at most 20 digits
 pub digits_few : (n : ℕ) → n < 2 ^ 64 → length (decimal n) ≤ 20
 digits_few n small = length-decimal-le 20 n (lit< tt) (omega arith) small
+
+-- the field of a number, cut out of a longer copy
+pub field_cut : (old room more : List ℕ) (n end start count whole : ℕ) → start + length (decimal n) ≡ 20 → drop start room ≡ decimal n ++ end ∷ more → count ≡ 21 → whole ≡ length old + (21 - start)
+    → take whole (old ++ take count (drop start room)) ≡ old ++ number end n
+field_cut old room more n end start count whole size is few all =
+    let k : 21 - start ≡ length (decimal n) + 1 = omega (arith, size) in
+    let j : 21 ≡ length (decimal n) + suc (20 - length (decimal n)) = omega (arith, size) in
+    let left : List ℕ = take (20 - length (decimal n)) more in
+    let copied : take count (drop start room) ≡ decimal n ++ end ∷ left = ap (take count) is ∙ ap (λ (m : ℕ). take m (decimal n ++ end ∷ more)) (few ∙ j) ∙ take-append-add (decimal n) (end ∷ more) (suc (20 - length (decimal n))) in
+    ap (λ (t : List ℕ). take whole (old ++ t)) copied
+    ∙ ap (λ (m : ℕ). take m (old ++ (decimal n ++ end ∷ left))) (all ∙ ap (λ (m : ℕ). length old + m) k)
+    ∙ take-append-add old (decimal n ++ end ∷ left) (length (decimal n) + 1)
+    ∙ ap (λ (t : List ℕ). old ++ t) (take-append-add (decimal n) (end ∷ left) 1)
 
 -- the field of a number of one digit
 pub short_field : (n end : ℕ) → n < 10 → (48 + n) ∷ end ∷ [] ≡ number end n

@@ -70,8 +70,25 @@ pub fn number_of(low: u64, high: u64, end: u8, bytes: &[u8]) -> Result<(u64, &[u
     }
 }
 
+/// Puts a number and the byte `end` behind it. A whole field is copied from the first digit on, and what is too much is cut
+/// off: a copy of a length that varies would be a call.
+#[inline(never)]
+fn put_digits(out: &mut Vec<u8>, end: u8, n: u64) -> Result<(), NoMemory>
+    ensures { Puts out.old.items out.new.items (number end n) result }
+{
+    let mut room = [0; DIGITS + FIELD];
+    room[DIGITS] = end;
+    let start = write_digits(n, &mut room, DIGITS);
+    let whole = out.len() + (FIELD - start);
+    out.extend_from_slice(&room[start..start + FIELD])?;
+    out.truncate(whole);
+    Ok(())
+}
+
 /// Puts the one spelling of a number at the end of a text, and the byte `end` behind it, in one go. No memory is taken but
-/// for the text's own growth; where that is refused, the text is as before.
+/// for the text's own growth; where that is refused, the text is as before. Most numbers have one digit: those are put
+/// without a call.
+#[inline]
 pub fn put_number(out: &mut Vec<u8>, end: u8, n: u64) -> Result<(), NoMemory>
     ensures { Puts out.old.items out.new.items (number end n) result }
 {
@@ -79,8 +96,5 @@ pub fn put_number(out: &mut Vec<u8>, end: u8, n: u64) -> Result<(), NoMemory>
         out.extend_from_slice(&[b'0' + n as u8, end])?;
         return Ok(());
     }
-    let mut field = [end; FIELD];
-    let start = write_digits(n, &mut field, DIGITS);
-    out.extend_from_slice(&field[start..])?;
-    Ok(())
+    put_digits(out, end, n)
 }
