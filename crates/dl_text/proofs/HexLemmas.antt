@@ -1,13 +1,14 @@
 -- Hex digits are read exactly.
-use Rattle.std.proofs.Common.{◌≡◌, ◌≢◌, ℕ, ◌+◌, ◌*◌, ◌/◌, ◌%◌, ◌≤◌, ◌<◌, Bool, true, false, cond, eqb, List, [], ◌∷◌, ◌++◌, length, take}
-use Rattle.std.proofs.Common.{drop, replicate, ◌-◌, Result, Ok, Err, ◌⊎◌, inl, inr, refl, sym, ap, subst, ◌∙◌, append_assoc, arith, lit<}
+use Rattle.std.proofs.Common.{◌≡◌, ◌≢◌, ℕ, zero, suc, ◌+◌, ◌*◌, ◌/◌, ◌%◌, ◌≤◌, ◌<◌, Bool, true, false, ◌&&◌, cond, eqb, List, [], ◌∷◌, ◌++◌}
+use Rattle.std.proofs.Common.{length, get_or, take, drop, replicate, ◌-◌, Result, Ok, Err, ◌⊎◌, inl, inr, refl, sym, ap, subst, ◌∙◌, append_assoc, arith, lit<}
 use Rattle.std.proofs.lemmas.Bool.Decides.{nat_tests}
-use Rattle.std.proofs.lemmas.Bool.{eqb-true, eq-eqb, ne_eqb, cases_eq, and_parts}
+use Rattle.std.proofs.lemmas.Bool.{eqb-true, eq-eqb, ne_eqb, cases_eq, cases_lt, and_parts}
 use Rattle.std.specs.List.{list_all}
 use Rattle.std.proofs.lemmas.List.{append-nil, take-append-drop, take_all, drop_all, drop-replicate, length-replicate, length-append, length-take}
 use Rattle.std.proofs.Math.Seq.{take-append_seam, drop-append_seam}
 use Rattle.dl_text.specs.Readers.{shared_length, ◌>>=◌, Exact}
 use Rattle.dl_text.specs.Fields.{bytes_field}
+use Rattle.dl_text.specs.declared.hex.TheConstants.{PAIRS}
 use Rattle.dl_text.specs.Hex.{is_hex, hex_value, hex_char, pairs, hex, AllBytes, pairs_at, end_at, hex_at, bytes_of, begins_digit, IsDigitCount}
 use Rattle.dl_text.proofs.ReaderLemmas.{ok_is, bind_ok, bind_err, shared-cons, onto}
 use Rattle.dl_text.proofs.NumberLemmas.{StopsEarly, far_from_stop}
@@ -571,6 +572,26 @@ written_over old shown items new start count whole len end told grown size room 
     ap (λ (t : List ℕ). take len (t ++ drop (length t) items)) text
     ∙ ap (λ (t : List ℕ). take len ((old ++ (new ++ end ∷ [])) ++ t)) (drop_all (length (old ++ (new ++ end ∷ []))) items (omega (arith, long, size)))
     ∙ ap (take len) (append-nil (old ++ (new ++ end ∷ []))) ∙ take_all len (old ++ (new ++ end ∷ [])) (omega (arith, long, all))
+
+-- the table holds the two digits of each byte below a number
+abbrev are_pairs : ℕ → Bool
+are_pairs zero = true
+are_pairs (suc b) = (eqb (get_or PAIRS (2 * b) 0) (hex_char (b / 16)) && eqb (get_or PAIRS (2 * b + 1) 0) (hex_char (b % 16))) && are_pairs b
+
+-- so it holds those of one of them
+pairs_below : (n b : ℕ) → are_pairs n ≡ true → b < n → (get_or PAIRS (2 * b) 0 ≡ hex_char (b / 16)) × (get_or PAIRS (2 * b + 1) 0 ≡ hex_char (b % 16))
+pairs_below zero b all h = absurd (omega arith)
+pairs_below (suc n) b all h =
+    let parts = and_parts (eqb (get_or PAIRS (2 * n) 0) (hex_char (n / 16)) && eqb (get_or PAIRS (2 * n + 1) 0) (hex_char (n % 16))) (are_pairs n) all in
+    let both = and_parts (eqb (get_or PAIRS (2 * n) 0) (hex_char (n / 16))) (eqb (get_or PAIRS (2 * n + 1) 0) (hex_char (n % 16))) parts.0 in
+    elim (cases_lt b n) [
+      | inl less ↦ pairs_below n b parts.1 less
+      | inr most ↦ let last : b ≡ n = omega arith in rw last (eqb-true _ _ both.0, eqb-true _ _ both.1)
+    ]
+
+-- the table holds the two digits of each byte
+pub pair_at : (b : ℕ) → b < 256 → (get_or PAIRS (2 * b) 0 ≡ hex_char (b / 16)) × (get_or PAIRS (2 * b + 1) 0 ≡ hex_char (b % 16))
+pair_at b h = pairs_below 256 b refl h
 
 -- two digits a byte
 pub pairs_long : (bytes : List ℕ) → length (pairs bytes) ≡ 2 * length bytes

@@ -320,6 +320,53 @@ digits_within now (Err e) low high end v bytes big from below given = tt
 pub digits_few : (n : ℕ) → n < 2 ^ 64 → length (decimal n) ≤ 20
 digits_few n small = length-decimal-le 20 n (lit< tt) (omega arith) small
 
+-- one digit
+decimal_1 : (n f : ℕ) → n < 10 → f ≡ 48 + n % 10 → decimal n ≡ f ∷ []
+decimal_1 n f h is = decimal_digit n h ∙ ap (λ (k : ℕ). k ∷ []) (omega (arith, is))
+
+-- one digit more
+decimal_more : (n d : ℕ) (ds : List ℕ) → 10 ≤ n → n < 1000000 → decimal (n / 10) ≡ ds → d ≡ 48 + n % 10 → decimal n ≡ ds ++ d ∷ []
+decimal_more n d ds lo hi front is =
+    decimal_step n lo (omega arith) ∙ ap (λ (t : List ℕ). t ++ (48 + n % 10) ∷ []) front ∙ ap (λ (k : ℕ). ds ++ k ∷ []) (sym is)
+
+-- the digits of a number of two
+pub decimal_2 : (n e f : ℕ) → 10 ≤ n → n < 100 → e ≡ 48 + n / 10 % 10 → f ≡ 48 + n % 10 → decimal n ≡ e ∷ f ∷ []
+decimal_2 n e f lo hi is_e is_f = decimal_more n f (e ∷ []) lo (omega arith) (decimal_1 (n / 10) e (omega arith) is_e) is_f
+
+-- the digits of a number of three
+pub decimal_3 : (n d e f : ℕ) → 100 ≤ n → n < 1000 → d ≡ 48 + n / 100 % 10 → e ≡ 48 + n / 10 % 10 → f ≡ 48 + n % 10
+    → decimal n ≡ d ∷ e ∷ f ∷ []
+decimal_3 n d e f lo hi is_d is_e is_f =
+    decimal_more n f (d ∷ e ∷ []) (omega arith) (omega arith)
+    (decimal_2 (n / 10) d e (omega arith) (omega arith) (omega (arith, is_d)) is_e) is_f
+
+-- the digits of a number of four
+pub decimal_4 : (n c d e f : ℕ) → 1000 ≤ n → n < 10000 → c ≡ 48 + n / 1000 % 10 → d ≡ 48 + n / 100 % 10 → e ≡ 48 + n / 10 % 10
+    → f ≡ 48 + n % 10 → decimal n ≡ c ∷ d ∷ e ∷ f ∷ []
+decimal_4 n c d e f lo hi is_c is_d is_e is_f =
+    decimal_more n f (c ∷ d ∷ e ∷ []) (omega arith) (omega arith)
+    (decimal_3 (n / 10) c d e (omega arith) (omega arith) (omega (arith, is_c)) (omega (arith, is_d)) is_e) is_f
+
+-- the digits of a number of five
+pub decimal_5 : (n b c d e f : ℕ) → 10000 ≤ n → n < 100000 → b ≡ 48 + n / 10000 % 10 → c ≡ 48 + n / 1000 % 10
+    → d ≡ 48 + n / 100 % 10 → e ≡ 48 + n / 10 % 10 → f ≡ 48 + n % 10 → decimal n ≡ b ∷ c ∷ d ∷ e ∷ f ∷ []
+decimal_5 n b c d e f lo hi is_b is_c is_d is_e is_f =
+    decimal_more n f (b ∷ c ∷ d ∷ e ∷ []) (omega arith) (omega arith)
+    (decimal_4 (n / 10) b c d e (omega arith) (omega arith) (omega (arith, is_b)) (omega (arith, is_c)) (omega (arith, is_d)) is_e) is_f
+
+-- the digits of a number of six
+pub decimal_6 : (n a b c d e f : ℕ) → 100000 ≤ n → n < 1000000 → a ≡ 48 + n / 100000 % 10 → b ≡ 48 + n / 10000 % 10
+    → c ≡ 48 + n / 1000 % 10 → d ≡ 48 + n / 100 % 10 → e ≡ 48 + n / 10 % 10 → f ≡ 48 + n % 10
+    → decimal n ≡ a ∷ b ∷ c ∷ d ∷ e ∷ f ∷ []
+decimal_6 n a b c d e f lo hi is_a is_b is_c is_d is_e is_f =
+    decimal_more n f (a ∷ b ∷ c ∷ d ∷ e ∷ []) (omega arith) hi
+    (decimal_5 (n / 10) a b c d e (omega arith) (omega arith) (omega (arith, is_a)) (omega (arith, is_b)) (omega (arith, is_c))
+    (omega (arith, is_d)) is_e) is_f
+
+-- digits and the byte behind them, put at the end of a text
+pub put_field : (old new digits : List ℕ) (n end : ℕ) → new ≡ old ++ (digits ++ end ∷ []) → decimal n ≡ digits → new ≡ old ++ number end n
+put_field old new digits n end grown is = grown ∙ ap (λ (t : List ℕ). old ++ (t ++ end ∷ [])) (sym is)
+
 -- the field of a number of one digit
 pub short_field : (n end : ℕ) → n < 10 → (48 + n) ∷ end ∷ [] ≡ number end n
 short_field n end h = ap (λ (t : List ℕ). t ++ end ∷ []) (sym (decimal_digit n h))

@@ -1,4 +1,4 @@
-ghost use Rattle.std.specs.Prelude.{◌≡◌, ◌<◌, ◌*◌, ◌%◌, [], IfOk, true, length};
+ghost use Rattle.std.specs.Prelude.{◌≡◌, ◌<◌, ◌*◌, ◌/◌, ◌%◌, [], IfOk, true, length};
 ghost use Rattle.std.specs.List.{list_all};
 ghost use Rattle.dl_text.specs.Readers.{Gives};
 ghost use Rattle.dl_text.specs.Hex.{is_hex, hex_value, hex_char, hex, hex_at, end_at};
@@ -147,16 +147,24 @@ pub fn hex_of(alloc: Global, end: u8, bytes: &[u8]) -> Result<(Vec<u8>, &[u8]), 
     }
 }
 
-/// The lower-case hex digit of a value.
-fn digit_of(value: u8) -> u8
-    requires { value < 16 }
-    ensures { result ≡ hex_char value }
+/// The two hex digits of each byte, in order.
+static PAIRS: [u8; 512] = *b"000102030405060708090a0b0c0d0e0f101112131415161718191a1b1c1d1e1f\
+    202122232425262728292a2b2c2d2e2f303132333435363738393a3b3c3d3e3f\
+    404142434445464748494a4b4c4d4e4f505152535455565758595a5b5c5d5e5f\
+    606162636465666768696a6b6c6d6e6f707172737475767778797a7b7c7d7e7f\
+    808182838485868788898a8b8c8d8e8f909192939495969798999a9b9c9d9e9f\
+    a0a1a2a3a4a5a6a7a8a9aaabacadaeafb0b1b2b3b4b5b6b7b8b9babbbcbdbebf\
+    c0c1c2c3c4c5c6c7c8c9cacbcccdcecfd0d1d2d3d4d5d6d7d8d9dadbdcdddedf\
+    e0e1e2e3e4e5e6e7e8e9eaebecedeeeff0f1f2f3f4f5f6f7f8f9fafbfcfdfeff";
+
+/// The two hex digits of a byte.
+#[inline]
+fn pair_of(byte: u8) -> (u8, u8)
+    ensures high { result.0 ≡ hex_char (byte / 16) }
+    ensures low { result.1 ≡ hex_char (byte % 16) }
 {
-    if value <= 9 {
-        b'0' + value
-    } else {
-        b'a' + (value - 10)
-    }
+    let at = 2 * byte as usize;
+    (PAIRS[at], PAIRS[at + 1])
 }
 
 /// Writes the pairs of bytes over a slice that has room for them.
@@ -165,8 +173,9 @@ fn write_pairs(out: &mut [u8], bytes: &[u8])
     ensures { out.new ≡ pairs bytes.now }
 {
     for (i, byte) in bytes.iter().enumerate() {
-        out[2 * i] = digit_of(*byte / 16);
-        out[2 * i + 1] = digit_of(*byte % 16);
+        let (high, low) = pair_of(*byte);
+        out[2 * i] = high;
+        out[2 * i + 1] = low;
     }
 }
 

@@ -1,4 +1,4 @@
-ghost use Rattle.std.specs.Prelude.{◌≡◌, ◌≤◌, ◌<◌, ◌+◌, ◌*◌, ℕ, IfOk};
+ghost use Rattle.std.specs.Prelude.{◌≡◌, ◌≤◌, ◌<◌, ◌+◌, ◌*◌, ◌%◌, ℕ, IfOk};
 ghost use Rattle.std.specs.Option.{SomeIff};
 ghost use Rattle.dl_text.specs.Readers.{Gives};
 ghost use Rattle.dl_text.specs.Numbers.{number, number_at, digits_at, IsRange, IsWithin};
@@ -70,8 +70,63 @@ pub fn number_of(low: u64, high: u64, end: u8, bytes: &[u8]) -> Result<(u64, &[u
     }
 }
 
+/// The last digit of a number.
+#[inline]
+fn last_digit(n: u64) -> u8
+    ensures { result ≡ 48 + n % 10 }
+{
+    b'0' + (n % 10) as u8
+}
+
+/// Puts a number of any size, and the byte `end` behind it.
+fn put_long(out: &mut Vec<u8>, end: u8, n: u64) -> Result<(), NoMemory>
+    ensures { Puts out.old.items out.new.items (number end n) result }
+{
+    let mut field = [end; FIELD];
+    let start = write_digits(n, &mut field, DIGITS);
+    out.extend_from_slice(&field[start..])?;
+    Ok(())
+}
+
+/// Puts a number of two digits or more, and the byte `end` behind it. Up to six digits are an array of their own for each
+/// length, so that they go from registers into the text.
+#[inline(never)]
+fn put_digits(out: &mut Vec<u8>, end: u8, n: u64) -> Result<(), NoMemory>
+    requires { 10 ≤ n }
+    ensures { Puts out.old.items out.new.items (number end n) result }
+{
+    let (e, f) = (last_digit(n / 10), last_digit(n));
+    if n < 100 {
+        out.extend_from_slice(&[e, f, end])?;
+        return Ok(());
+    }
+    let d = last_digit(n / 100);
+    if n < 1_000 {
+        out.extend_from_slice(&[d, e, f, end])?;
+        return Ok(());
+    }
+    let c = last_digit(n / 1_000);
+    if n < 10_000 {
+        out.extend_from_slice(&[c, d, e, f, end])?;
+        return Ok(());
+    }
+    let b = last_digit(n / 10_000);
+    if n < 100_000 {
+        out.extend_from_slice(&[b, c, d, e, f, end])?;
+        return Ok(());
+    }
+    let a = last_digit(n / 100_000);
+    if n < 1_000_000 {
+        out.extend_from_slice(&[a, b, c, d, e, f, end])?;
+        return Ok(());
+    }
+    put_long(out, end, n)
+}
+
 /// Puts the one spelling of a number at the end of a text, and the byte `end` behind it, in one go. No memory is taken but
-/// for the text's own growth; where that is refused, the text is as before.
+/// for the text's own growth; where that is refused, the text is as before. Most numbers have one digit: those are put
+/// without a call.
+#[inline]
 pub fn put_number(out: &mut Vec<u8>, end: u8, n: u64) -> Result<(), NoMemory>
     ensures { Puts out.old.items out.new.items (number end n) result }
 {
@@ -79,8 +134,5 @@ pub fn put_number(out: &mut Vec<u8>, end: u8, n: u64) -> Result<(), NoMemory>
         out.extend_from_slice(&[b'0' + n as u8, end])?;
         return Ok(());
     }
-    let mut field = [end; FIELD];
-    let start = write_digits(n, &mut field, DIGITS);
-    out.extend_from_slice(&field[start..])?;
-    Ok(())
+    put_digits(out, end, n)
 }

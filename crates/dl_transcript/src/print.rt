@@ -22,6 +22,7 @@ use dl_types::txid::TxId;
 use std::alloc::Global;
 
 /// Puts the number of the line, and the first word of an event there.
+#[inline]
 fn put_verb(out: &mut Vec<u8>, line: u32, verb: Verb) -> Result<(), NoMemory>
     ensures { OnOk result (out.new.items ≡ out.old.items ++ (number space line ++ verb_text verb)) }
 {
