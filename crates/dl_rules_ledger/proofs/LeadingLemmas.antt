@@ -1,6 +1,8 @@
 -- Counting from 0 on, up to the first number that fails.
-use Rattle.std.proofs.Common.{◌≡◌, ℕ, zero, suc, ◌<◌, ◌≤◌, Bool, true, false, cond, ◌&&◌, ◌==◌, refl, sym, ap, ◌∙◌, arith, inl, inr, ◌⊎◌, le_refl, eq-eqb, eqb-true}
-use Rattle.std.proofs.lemmas.Bool.{cases_eq, cases_lt, ne_eqb, cond_both, and_parts, and_from, and_right, and_left, and_cases, cond-true, cond-false, false≢true}
+use Rattle.std.proofs.Common.{◌≡◌, ℕ, zero, suc, ◌<◌, ◌≤◌, Bool, true, false, cond, ◌&&◌, ◌==◌, refl, sym, ap, ◌∙◌, arith, inl, inr, ◌⊎◌, le_refl}
+use Rattle.std.proofs.Common.{eq-eqb, eqb-true}
+use Rattle.std.proofs.lemmas.Bool.{cases_eq, cases_lt, ne_eqb, cond_both, and_parts, and_from, and_right, and_left, and_cases, cond-true, cond-false}
+use Rattle.std.proofs.lemmas.Bool.{false≢true}
 use Rattle.dl_rules_ledger.specs.Leading.{leading_count}
 
 -- one number more

@@ -1,5 +1,6 @@
 -- The laws of a ledger's writer.
-use Rattle.std.proofs.Common.{◌≡◌, ◌≢◌, ℕ, ◌+◌, ◌%◌, ◌<◌, ◌≤◌, true, List, [], ◌∷◌, map, length, get_or, slice_index, refl, sym, ap, ◌∙◌, subst, arith, inl, inr, ◌⊎◌, leb-true, mod-lt}
+use Rattle.std.proofs.Common.{◌≡◌, ◌≢◌, ℕ, ◌+◌, ◌%◌, ◌<◌, ◌≤◌, true, List, [], ◌∷◌, map, length, get_or, slice_index, refl, sym, ap, ◌∙◌, subst}
+use Rattle.std.proofs.Common.{arith, inl, inr, ◌⊎◌, leb-true, mod-lt}
 use Rattle.std.proofs.lemmas.Bool.{cases_lt, or_right}
 use Rattle.std.proofs.lemmas.List.{length-map, get_or-map}
 use Rattle.std.specs.List.{AllByRecursion, AllPairs}
@@ -13,8 +14,10 @@ use Rattle.dl_quorum.proofs.WriteSetLemmas.{places_differ, write_set-is, length-
 use Rattle.dl_record.specs.Grammar.{IsEntryBytes}
 use Rattle.dl_msg.specs.declared.letters.Told.{Told}
 use Rattle.dl_msg.specs.Whole.{IsWhole}
-use Rattle.dl_rules_ledger.specs.Writers.{WriterCall, Sends, Hears, WriterView, with_call, sent_count, has_acked, has_ack_quorum, confirmed_count, add_to, add_letters}
-use Rattle.dl_rules_ledger.specs.Laws.{ConfirmedIsGreatest, ConfirmedNeverFalls, AcksAreOfAQuorum, MembersDiffer, EnsemblesDiffer, RingsAreEnsembles, FencesStay, AddsAreWhole}
+use Rattle.dl_rules_ledger.specs.Writers.{WriterCall, Sends, Hears, WriterView, with_call, sent_count, has_acked, has_ack_quorum, confirmed_count}
+use Rattle.dl_rules_ledger.specs.Writers.{add_to, add_letters}
+use Rattle.dl_rules_ledger.specs.Laws.{ConfirmedIsGreatest, ConfirmedNeverFalls, AcksAreOfAQuorum, MembersDiffer, EnsemblesDiffer, RingsAreEnsembles}
+use Rattle.dl_rules_ledger.specs.Laws.{FencesStay, AddsAreWhole}
 use Rattle.dl_rules_ledger.proofs.LeadingLemmas.{leading_count-le, leading_count-below, leading_count-greatest}
 
 -- the count of the first entries that have an ack quorum is the greatest

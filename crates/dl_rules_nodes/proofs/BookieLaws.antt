@@ -8,25 +8,31 @@ use Rattle.dl_rules_nodes.specs.Items.{Item, is_fence}
 use Rattle.dl_rules_nodes.specs.Bookies.{Bookie, durable, queued, Taken, Looks, Answers, Queues, taken, after, with_batch, committed, stopped}
 use Rattle.dl_rules_nodes.specs.Laws.{DurableItemsOnlyGrow, CommitsMoveItems, FencesStay}
 
-with_batch_items : (batches : List (List Item)) (items : List Item) → flat_map (λ batch. batch) (with_batch batches items) ≡ flat_map (λ batch. batch) batches ++ items
+-- the items of batches with one more, where there is an item, are those before and then its own
+with_batch_items : (batches : List (List Item)) (items : List Item)
+    → flat_map (λ batch. batch) (with_batch batches items) ≡ flat_map (λ batch. batch) batches ++ items
 with_batch_items batches [] = sym (append-nil (flat_map (λ batch. batch) batches))
 with_batch_items batches (x ∷ xs) =
     flat_map-append (λ (batch : List Item). batch) batches ((x ∷ xs) ∷ [])
     ∙ ap (λ (ys : List Item). flat_map (λ batch. batch) batches ++ ys) (append-nil (x ∷ xs))
 
+-- a message changes no durable item
 after_message : (b : Bookie) (client session : ℕ) (t : Taken) → durable (after b client session t) ≡ durable b
 after_message b client session Looks = refl
 after_message b client session (Answers reply) = refl
 after_message b client session (Queues reply item) = refl
 
+-- after a commit the queued items stand behind the durable ones
 after_commit : (b : Bookie) → durable (committed b) ≡ durable b ++ queued b
 unfolding committed
 after_commit b = with_batch_items b.batches (queued b)
 
+-- after a commit that was stopped they stand there, or the durable items are as before
 after_stop : (b : Bookie) (kept : Bool) → durable (stopped b kept) ≡ cond kept (durable b ++ queued b) (durable b)
 after_stop b true = with_batch_items b.batches (queued b)
 after_stop b false = refl
 
+-- durable items only grow
 pub durable_items_only_grow : DurableItemsOnlyGrow
 durable_items_only_grow b = record {
   message = λ client session m. after_message b client session (taken b m);
@@ -34,17 +40,21 @@ durable_items_only_grow b = record {
   stop = after_stop b;
 }
 
+-- after a commit no item is queued
 queue_is_empty : (b : Bookie) → queued (committed b) ≡ []
 unfolding committed
 queue_is_empty b = refl
 
+-- a commit changes no item that the node has
 pub commits_move_items : CommitsMoveItems
 commits_move_items b = ap (λ (ys : List Item). durable (committed b) ++ ys) (queue_is_empty b) ∙ append-nil (durable (committed b)) ∙ after_commit b
 
+-- one of two that is true makes the choice of both true
 or_true : (s t : Bool) → s ≡ true → (s || t) ≡ true
 or_true true t e = refl
 or_true false t e = absurd cc
 
+-- a durable fence is durable after a commit
 pub fences_stay : FencesStay
 fences_stay b ledger e =
     ap (λ (items : List Item). list_any (is_fence ledger) items) (after_commit b)

@@ -1,6 +1,7 @@
 -- A storage node (BookKeeper documentation, "Bookies"): its durable batches and the replies that wait for the next commit; what
 -- a message does, and what a commit leaves.
-use Rattle.std.specs.Prelude.{ℕ, ◌+◌, ◌-◌, Bool, true, false, if◌then◌else◌, not, ◌&&◌, nat_lt, nat_le, List, [], ◌∷◌, ◌++◌, length, sum_by, Option, Some, None, flat_map, map, option_to_list, find}
+use Rattle.std.specs.Prelude.{ℕ, ◌+◌, ◌-◌, Bool, true, false, if◌then◌else◌, not, ◌&&◌, nat_lt, nat_le, List, [], ◌∷◌, ◌++◌, length, sum_by, Option}
+use Rattle.std.specs.Prelude.{Some, None, flat_map, map, option_to_list, find}
 use Rattle.std.specs.List.{list_any}
 use Rattle.dl_pool.specs.Pools.{pages_of}
 use Rattle.dl_msg.specs.declared.msg.Msg.{Msg}

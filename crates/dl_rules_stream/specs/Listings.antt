@@ -1,5 +1,6 @@
 -- The names of the children of a stream's nodes `segs` and `lock`, and the values of the nodes that are read.
-use Rattle.std.specs.Prelude.{ℕ, ◌+◌, ◌-◌, ◌*◌, Bool, false, ◌&&◌, ◌==◌, nat_le, nat_lt, if◌then◌else◌, List, [], ◌∷◌, length, drop, fold, Option, Some, None, option_to_list, Result, Ok, Err, flat_map}
+use Rattle.std.specs.Prelude.{ℕ, ◌+◌, ◌-◌, ◌*◌, Bool, false, ◌&&◌, ◌==◌, nat_le, nat_lt, if◌then◌else◌, List, [], ◌∷◌, length, drop, fold, Option}
+use Rattle.std.specs.Prelude.{Some, None, option_to_list, Result, Ok, Err, flat_map}
 use Rattle.std.specs.List.{list_all}
 use Rattle.dl_types.specs.declared.dlsn.Dlsn.{Dlsn}
 use Rattle.dl_types.specs.declared.refusal.Refusal.{Refusal}

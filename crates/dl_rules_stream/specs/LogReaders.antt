@@ -1,6 +1,7 @@
 -- The reader of a stream by the calls that it was given (DistributedLog documentation, "Log reader"): a read goes over the listed
 -- segments from its cursor on, and gathers the rows of the entries that can be read.
-use Rattle.std.specs.Prelude.{ℕ, ◌+◌, Bool, false, ◌&&◌, ◌==◌, nat_le, nat_lt, if◌then◌else◌, List, [], ◌∷◌, ◌++◌, length, map, filter, take, Option, Some, None, Result, Ok, Err}
+use Rattle.std.specs.Prelude.{ℕ, ◌+◌, Bool, false, ◌&&◌, ◌==◌, nat_le, nat_lt, if◌then◌else◌, List, [], ◌∷◌, ◌++◌, length, map, filter, take, Option}
+use Rattle.std.specs.Prelude.{Some, None, Result, Ok, Err}
 use Rattle.dl_types.specs.declared.dlsn.Dlsn.{Dlsn}
 use Rattle.dl_types.specs.declared.read_row.ReadRow.{ReadRow}
 use Rattle.dl_types.specs.declared.start.Start.{Start}

@@ -1,6 +1,7 @@
 -- The writer of a log segment by the calls that it was given (DistributedLog documentation, "Log writer"): records are packed into
 -- entries, entries are sent to the segment's ledger, and a control entry makes what was confirmed readable.
-use Rattle.std.specs.Prelude.{ℕ, suc, ◌+◌, ◌-◌, Bool, true, false, not, ◌&&◌, ◌==◌, nat_le, nat_lt, if◌then◌else◌, List, [], ◌∷◌, ◌++◌, length, take, drop, sum_by, flat_map, Option, Some, None, is_some, Result, Ok, Err}
+use Rattle.std.specs.Prelude.{ℕ, suc, ◌+◌, ◌-◌, Bool, true, false, not, ◌&&◌, ◌==◌, nat_le, nat_lt, if◌then◌else◌, List, [], ◌∷◌, ◌++◌, length, take}
+use Rattle.std.specs.Prelude.{drop, sum_by, flat_map, Option, Some, None, is_some, Result, Ok, Err}
 use Rattle.dl_types.specs.declared.entry_bytes.TheConstants.{MAX_ENTRY}
 use Rattle.dl_types.specs.declared.payload.TheConstants.{MAX_PAYLOAD}
 use Rattle.dl_types.specs.declared.row.Origin.{Origin}
