@@ -3,8 +3,8 @@
 
 usage: gate_minutes.py [FOLDER]
 
-The gate (`.ci/run`, which proves all from nothing) runs in FOLDER, this repository where none is given; its output goes to
-`gate.log` in the current folder, and its last line is printed last. While it runs, the processes below it are looked at twice a
+The gate (`rt ci --anew`, which keeps nothing of earlier runs) runs in FOLDER, this repository where none is given; its output goes
+to `gate.log` in the current folder, and its last line is printed last. While it runs, the processes below it are looked at twice a
 second: a process that works on a crate names it, and its processor time counts for that crate. What a process uses in its last half
 second is not seen, nor is one that ends sooner, so the parts sum to a little less than the whole, which is told exactly. Other work
 on the machine makes the minutes longer. It is run by hand, and is no part of the tests.
@@ -60,7 +60,7 @@ def main():
     top = pathlib.Path(sys.argv[1]).resolve() if sys.argv[1:] else TOP
     seen, begun = {}, time.monotonic()
     with open("gate.log", "wb") as log:
-        gate = subprocess.Popen([str(top / ".ci" / "run")], cwd=top, stdout=log, stderr=subprocess.STDOUT)
+        gate = subprocess.Popen(["rt", "ci", "--anew"], cwd=top, stdout=log, stderr=subprocess.STDOUT)
         while gate.poll() is None:
             look(children_of(), gate.pid, None, seen)
             time.sleep(0.5)
