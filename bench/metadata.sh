@@ -7,7 +7,7 @@
 set -e
 cd "$(dirname "$(readlink -f "$0")")/.."
 . bench/scratch.sh
-scratch_with bench_metadata "dl_types dl_codec dl_depot dl_journal dl_tree_msg dl_formats dl_meta" dl_types dl_codec dl_record dl_fields \
+scratch_with bench_metadata "dl_types dl_codec dl_depot dl_journal dl_tree_msg dl_formats dl_meta" dl_types dl_reading dl_codec dl_record dl_fields \
     dl_tree_msg dl_msg dl_pool dl_session dl_tree dl_formats dl_rules_nodes dl_depot dl_journal dl_meta
 mkdir "$bench/proofs/serve_all" "$bench/proofs/fill"
 for call in serve_all fill; do

@@ -1,5 +1,6 @@
 -- Each call does what is due.
-use Rattle.std.proofs.Common.{◌≡◌, ℕ, ◌+◌, ◌≤◌, ◌<◌, Bool, true, false, cond, ◌&&◌, nat_lt, nat_le, Option, Some, None, Result, Ok, Err, sym, ap, ◌∙◌, subst, refl, arith}
+use Rattle.std.proofs.Common.{◌≡◌, ℕ, ◌+◌, ◌≤◌, ◌<◌, Bool, true, false, cond, ◌&&◌, nat_lt, nat_le, Option, Some, None, Result, Ok, Err, sym, ap, ◌∙◌, subst}
+use Rattle.std.proofs.Common.{refl, arith}
 use Rattle.std.specs.Int.{w32, w64}
 use Rattle.std.proofs.lemmas.Bool.Decides.{nat_tests}
 use Rattle.dl_types.specs.declared.meta_op.MetaOp.{MetaOp}
@@ -37,11 +38,14 @@ pub turned : {A : Type 0} (old new : View) (Idle : Type 0) (n : MetaNode) (befor
     → Takes old new Idle n before after u result → Takes old new Idle n before after t result
 turned {A} old new Idle n before after t u result e k = subst (λ (x : Turn A). Takes old new Idle n before after x result) (sym e) k
 
-pub connect_full : (view : View) (Idle : Type 0) (s : MetaState) (t : Bool) → Idle → t ≡ (nat_lt s.sessions.last greatest_session && nat_le 9 (spare_of s.journal)) → t ≡ false
+-- where no session can be given the store rests
+pub connect_full : (view : View) (Idle : Type 0) (s : MetaState) (t : Bool) → Idle
+    → t ≡ (nat_lt s.sessions.last greatest_session && nat_le 9 (spare_of s.journal)) → t ≡ false
     → (n : MetaNode) → StandsFor n s → Takes view view Idle n s s (connect_turn n) (Err fault.Full)
 connect_full view Idle s t idle e no_room n h =
     turned view view Idle n s s (connect_turn n) HasNoRoom (Err fault.Full)
-    (connect_is n s t h e ∙ ap (λ b. cond b (Commits (Connect (s.sessions.last + 1)) (s.sessions.last + 1)) HasNoRoom) no_room) (refl, record { same = refl; idle = idle })
+    (connect_is n s t h e ∙ ap (λ b. cond b (Commits (Connect (s.sessions.last + 1)) (s.sessions.last + 1)) HasNoRoom) no_room)
+    (refl, record { same = refl; idle = idle })
 
 -- a session that may be given is not above the greatest
 pub few_given : (t : Bool) (last room : ℕ) → t ≡ (nat_lt last greatest_session && nat_le 9 room) → t ≡ true → last < greatest_session
@@ -51,6 +55,7 @@ few_given t last room e is = below (nat_lt last greatest_session) refl (sym e �
     below true so both = grind (arith, nat_tests)
     below false so both = absurd (cc both)
 
+-- a session that is given is stored as the node says
 pub connect_stored : (old new : View) (Idle : Type 0) (before after : MetaState) (t : Bool) (result : Result ℕ MetaFault) → (Idle → new ≡ old)
     → t ≡ (nat_lt before.sessions.last greatest_session && nat_le 9 (spare_of before.journal)) → t ≡ true → before.sessions.last < greatest_session
     → Stores old new Idle before after (Connect (before.sessions.last + 1)) (before.sessions.last + 1) result
@@ -61,6 +66,7 @@ connect_stored old new Idle before after t result idle e room few stored n h =
     (stored_puts old new Idle n (Connect (before.sessions.last + 1)) (before.sessions.last + 1) before after result idle h
     (subst (λ (k : Known). IsDue false k (Connect (before.sessions.last + 1))) (sessions_are n before h) (connect_due before.sessions few)) stored)
 
+-- a session that is not live is not ended
 pub expire_resting : (view : View) (Idle : Type 0) (s : MetaState) (session : ℕ) → Idle → is_live s.sessions session ≡ false
     → (n : MetaNode) → StandsFor n s → Takes view view Idle n s s (expire_turn n session) (Ok false)
 expire_resting view Idle s session idle not_live n h =
@@ -68,6 +74,7 @@ expire_resting view Idle s session idle not_live n h =
     (expire_is n s session h ∙ ap (λ b. cond b (cond (nat_le 9 (spare_of s.journal)) (Commits (Expire session) true) HasNoRoom) (Says false)) not_live)
     (refl, record { same = refl; idle = idle })
 
+-- where the end of a session finds no room the store rests
 pub expire_full : (view : View) (Idle : Type 0) (s : MetaState) (session : ℕ) → Idle → is_live s.sessions session ≡ true → nat_le 9 (spare_of s.journal) ≡ false
     → (n : MetaNode) → StandsFor n s → Takes view view Idle n s s (expire_turn n session) (Err fault.Full)
 expire_full view Idle s session idle live no_room n h =
@@ -76,7 +83,9 @@ expire_full view Idle s session idle live no_room n h =
     ∙ ap (λ b. cond b (Commits (Expire session) true) HasNoRoom) no_room)
     (refl, record { same = refl; idle = idle })
 
-pub expire_stored : (old new : View) (Idle : Type 0) (before after : MetaState) (session : ℕ) (result : Result Bool MetaFault) → (Idle → new ≡ old) → Fits w64 session
+-- the end of a session is stored as the node says
+pub expire_stored : (old new : View) (Idle : Type 0) (before after : MetaState) (session : ℕ) (result : Result Bool MetaFault) → (Idle → new ≡ old)
+    → Fits w64 session
     → is_live before.sessions session ≡ true → nat_le 9 (spare_of before.journal) ≡ true → Stores old new Idle before after (Expire session) true result
     → (n : MetaNode) → StandsFor n before → Takes old new Idle n before after (expire_turn n session) result
 expire_stored old new Idle before after session result idle fits live room stored n h =

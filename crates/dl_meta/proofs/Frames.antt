@@ -11,6 +11,7 @@ use Rattle.dl_rules_nodes.specs.Items.{MetaItem, Setup, Connect, Expire, Ask, me
 use Rattle.dl_formats.specs.declared.conf.Conf.{Conf}
 use Rattle.dl_meta.specs.Storing.{blank, framed}
 
+-- a frame has 13 bytes beside its body
 pub length-framed : (body : List ℕ) → length (framed body) ≡ length body + 13
 length-framed body = grind (arith, length-append {A = ℕ})
 
@@ -25,10 +26,12 @@ pub length-connect : (session : ℕ) → meta_item_length (Connect session) ≡ 
 unfolding meta_item_bytes
 length-connect session = grind (arith, sizes)
 
+-- the end of a session has as many
 pub length-expire : (session : ℕ) → meta_item_length (Expire session) ≡ 9
 unfolding meta_item_bytes
 length-expire session = grind (arith, sizes)
 
+-- a configuration has five
 pub length-conf : (conf : Conf) → meta_item_length (Setup conf) ≡ 5
 unfolding meta_item_bytes
 length-conf conf = grind (arith, sizes)

@@ -1,5 +1,6 @@
 -- Bytes that hold the items of a node are loaded as that node.
-use Rattle.std.proofs.Common.{◌≡◌, ◌⊎◌, inl, inr, ℕ, ◌+◌, ◌<◌, true, List, [], ◌∷◌, ◌++◌, length, Result, Ok, Err, sym, ap, ◌∙◌, subst, refl, arith, length-append}
+use Rattle.std.proofs.Common.{◌≡◌, ◌⊎◌, inl, inr, ℕ, ◌+◌, ◌<◌, true, List, [], ◌∷◌, ◌++◌, length, Result, Ok, Err, sym, ap, ◌∙◌, subst, refl, arith}
+use Rattle.std.proofs.Common.{length-append}
 use Rattle.dl_journal.specs.declared.batch.Batch.{Batch}
 use Rattle.dl_journal.specs.Batches.{magic, spell, InForce}
 use Rattle.dl_journal.proofs.OneWay.{one_list, not_both, one_place}
@@ -18,6 +19,7 @@ bodies_stay : (first : ℕ) (bodies : List (List ℕ)) → bodies_in (numbered f
 bodies_stay first [] = refl
 bodies_stay first (b ∷ bodies) = ap (λ (l : List (List ℕ)). b ∷ l) (bodies_stay (first + 1) bodies)
 
+-- batches that are the same have the same bodies
 same_bodies : (f g : ℕ) (bs cs : List (List ℕ)) → numbered f bs ≡ numbered g cs → bs ≡ cs
 same_bodies f g bs cs e = sym (bodies_stay f bs) ∙ ap bodies_in e ∙ bodies_stay g cs
 
@@ -26,6 +28,7 @@ first_in : List Batch → ℕ
 first_in [] = 0
 first_in (b ∷ bs) = b.number
 
+-- and the same first number
 same_first : (f g : ℕ) (bs cs : List (List ℕ)) → numbered f bs ≡ numbered g cs → 0 < length bs → f ≡ g
 unfolding first_in
 same_first f g [] cs e some = absurd (omega arith)
@@ -33,15 +36,19 @@ same_first f g (b ∷ bs) [] e some = absurd (cc e)
 same_first f g (b ∷ bs) (c ∷ cs) e some = ap first_in e
 
 -- what is read of the bodies of items in order
-again : (first : ℕ) (bodies : List (List ℕ)) (n : MetaNode) → AreInOrder n.items → bodies ≡ bodies_of n.items → loaded_meta first bodies ≡ Ok (record n { first = first })
+again : (first : ℕ) (bodies : List (List ℕ)) (n : MetaNode) → AreInOrder n.items → bodies ≡ bodies_of n.items
+    → loaded_meta first bodies ≡ Ok (record n { first = first })
 again first bodies n order e = ap (loaded_meta first) e ∙ meta_lists_are_exact.again first n.items order
 
+-- no reading gives both a node and a fault
 differ : {A : Type 0} (n : MetaNode) (at : ℕ) (r : Result MetaNode ℕ) → r ≡ Ok n → r ≡ Err at → A
 differ n at r e f = absurd (cc (e, f))
 
+-- a reading gives one node
 same_node : (m n : MetaNode) (r : Result MetaNode ℕ) → r ≡ Ok m → r ≡ Ok n → m ≡ n
 same_node m n r e f = cc
 
+-- bytes with the items of a node are whole, not empty, and of no other node
 pub gives_back : GivesBack
 unfolding HoldsItems batches_of
 gives_back n bytes order some holds = record { whole = whole; some = held; only = only }
@@ -53,7 +60,8 @@ gives_back n bytes order some holds = record { whole = whole; some = held; only 
     whole : (at : ℕ) → IsDamagedAt bytes at → ⊥
     whole at (no_bytes, inl breaks) = not_both bytes (numbered n.first (bodies_of n.items)) at holds.in_force breaks
     whole at (no_bytes, inr b) =
-        let bodies : bodies_in b.batches ≡ bodies_of n.items = same_bodies b.first n.first (bodies_in b.batches) (bodies_of n.items) (is_list (numbered b.first (bodies_in b.batches)) b.in_force.in_force) in
+        let bodies : bodies_in b.batches ≡ bodies_of n.items = same_bodies b.first n.first (bodies_in b.batches) (bodies_of n.items)
+        (is_list (numbered b.first (bodies_in b.batches)) b.in_force.in_force) in
         differ (record n { first = b.first }) at (loaded_meta b.first (bodies_in b.batches)) (again b.first (bodies_in b.batches) n order bodies) b.broken
 
     count : length (bodies_of n.items) ≡ length n.items
@@ -69,7 +77,8 @@ gives_back n bytes order some holds = record { whole = whole; some = held; only 
 
     only : (m : MetaNode) → AreInOrder m.items → HoldsItems m bytes → m ≡ n
     only m order_m holds_m =
-        let lists : numbered m.first (bodies_of m.items) ≡ numbered n.first (bodies_of n.items) = is_list (numbered m.first (bodies_of m.items)) holds_m.in_force in
+        let lists : numbered m.first (bodies_of m.items) ≡ numbered n.first (bodies_of n.items) =
+        is_list (numbered m.first (bodies_of m.items)) holds_m.in_force in
         let bodies : bodies_of m.items ≡ bodies_of n.items = same_bodies m.first n.first (bodies_of m.items) (bodies_of n.items) lists in
         let first : n.first ≡ m.first = same_first n.first m.first (bodies_of n.items) (bodies_of m.items) (sym lists) (omega (arith, count, some)) in
         same_node m n (loaded_meta m.first (bodies_of m.items)) (meta_lists_are_exact.again m.first m.items order_m)
@@ -99,6 +108,7 @@ none_read : (first at : ℕ) → loaded_meta first [] ≡ Err at → ⊥
 unfolding loaded_meta meta_items_at
 none_read first at e = cc e
 
+-- bytes are damaged at one place
 one_damage : (bytes : List ℕ) (a b : ℕ) → IsDamagedAt bytes a → IsDamagedAt bytes b → a ≡ b
 one_damage bytes a b (some, inl x) (more, inl y) = one_place bytes a b x y
 one_damage bytes a b (some, inl x) (more, inr y) = absurd (not_both bytes (numbered y.first (bodies_in y.batches)) a y.in_force.in_force x)
@@ -108,6 +118,7 @@ one_damage bytes a b (some, inr x) (more, inr y) =
     let bodies : bodies_in x.batches ≡ bodies_in y.batches = same_bodies x.first y.first (bodies_in x.batches) (bodies_in y.batches) lists in
     same_place x.first y.first (bodies_in y.batches) a b (subst (λ (l : List (List ℕ)). loaded_meta x.first l ≡ Err a) bodies x.broken) y.broken
 
+-- bytes that hold no item are whole
 none_is_whole : (bytes : List ℕ) (at : ℕ) → HoldsNone bytes → IsDamagedAt bytes at → ⊥
 none_is_whole bytes at (inl e) d = d.0 e
 none_is_whole bytes at (inr j) (some, inl breaks) = not_both bytes [] at j.in_force breaks
@@ -116,5 +127,6 @@ none_is_whole bytes at (inr j) (some, inr b) =
     let none : bodies_in b.batches ≡ [] = sym (bodies_stay b.first (bodies_in b.batches)) ∙ ap bodies_in lists in
     none_read b.first at (subst (λ (l : List (List ℕ)). loaded_meta b.first l ≡ Err at) none b.broken)
 
+-- both, as a law
 pub damage_is_one : DamageIsOne
 damage_is_one = record { one_place = one_damage; whole = none_is_whole }

@@ -1,6 +1,7 @@
 -- What a call does, by the items that the store stands for. The parts of a call speak of what the store keeps alone; here they
 -- are lifted, once for all calls.
-use Rattle.std.proofs.Common.{◌≡◌, ℕ, ◌+◌, ◌-◌, ◌≤◌, ◌<◌, ◌⊎◌, ◌↔◌, inl, inr, Bool, true, false, cond, List, [], ◌∷◌, ◌++◌, length, Option, Some, None, Result, Ok, Err, sym, ap, ◌∙◌, subst, refl, arith, OnOk, IsErrOf}
+use Rattle.std.proofs.Common.{◌≡◌, ℕ, ◌+◌, ◌-◌, ◌≤◌, ◌<◌, ◌⊎◌, ◌↔◌, inl, inr, Bool, true, false, cond, List, [], ◌∷◌, ◌++◌, length, Option, Some, None, Result}
+use Rattle.std.proofs.Common.{Ok, Err, sym, ap, ◌∙◌, subst, refl, arith, OnOk, IsErrOf}
 use Rattle.std.proofs.lemmas.List.{append-nil}
 use Rattle.dl_depot.specs.View.{View, Keeps, LeavesOnly}
 use Rattle.dl_depot.specs.Device.{Rose}
@@ -29,12 +30,15 @@ use Rattle.dl_meta.specs.Storing.{framed, CommitsBody, IsStored, Stores}
 use Rattle.dl_meta.proofs.Files.{batches-push}
 use Rattle.dl_meta.proofs.Frames.{length-framed, body_framed, item_is_some}
 
+-- what is told is one list of bytes
 some_is : (x y : List ℕ) → Some x ≡ Some y → x ≡ y
 some_is x y e = cc
 
 -- calls are those of this work, whatever is answered by it
-calls_as : {X Y E F : Type 0} (old new : View) (file : ℕ) (work : List DeviceCall) (r : Result X E) (s : Result Y F) → file ≡ meta_file → MakesCalls old new file work r
-    → ((calls : List DeviceCall) → OnOk r (new.calls file ≡ Some (calls ++ work)) → OnOk s (new.calls file ≡ Some (calls ++ work))) → MakesCalls old new meta_file work s
+calls_as : {X Y E F : Type 0} (old new : View) (file : ℕ) (work : List DeviceCall) (r : Result X E) (s : Result Y F) → file ≡ meta_file
+    → MakesCalls old new file work r
+    → ((calls : List DeviceCall) → OnOk r (new.calls file ≡ Some (calls ++ work)) → OnOk s (new.calls file ≡ Some (calls ++ work)))
+    → MakesCalls old new meta_file work s
 calls_as old new file work r s at calls on =
     subst (λ (f : ℕ). MakesCalls old new f work s) at
     (record { told = λ before is. on before (calls.told before is); fronts = calls.fronts; unset = calls.unset })
@@ -51,7 +55,8 @@ unfolding meta_from meta_gate
 stands_with n x before after h due meta journal = record {
   meta = meta ∙ ap (λ (m : Meta). does m x) h.meta;
   file = ap (λ (j : JournalState). j.file) journal ∙ h.file;
-  gate = ap (λ (j : JournalState). j.gate) journal ∙ (let k : before.journal.gate + (length (meta_item_bytes x) + 13) ≡ meta_gate n.items + 13 + meta_item_length x = omega (arith, h.gate) in k);
+  gate = ap (λ (j : JournalState). j.gate) journal
+      ∙ (let k : before.journal.gate + (length (meta_item_bytes x) + 13) ≡ meta_gate n.items + 13 + meta_item_length x = omega (arith, h.gate) in k);
   next = ap (λ (j : JournalState). j.next) journal ∙ (let k : before.journal.next + 1 ≡ n.first + length (x ∷ n.items) = omega (arith, h.next) in k);
   works = ap (λ (j : JournalState). j.failed) journal;
   in_order = (subst (λ (b : Bool). IsDue b (meta_of n.items).sessions x) (sym (is_later n.items h.some)) due, h.in_order);
@@ -72,21 +77,25 @@ module _ (old new : View) (n : MetaNode) (x : MetaItem) (before after : MetaStat
   moments : (shown : List ℕ) (r : Result (Unit {0}) CommitFault) → Committed old new before.journal after.journal (meta_item_bytes x) r
       → Settled old before.journal shown (batches_of n) → LeavesOnly meta_file old new (HoldsEither n x)
   moments shown r c settled =
-      subst (λ (f : ℕ). LeavesOnly f old new (HoldsEither n x)) stands.file (λ t bytes from to image. either bytes (c.any_moment shown (batches_of n) settled t bytes from to image))
+      subst (λ (f : ℕ). LeavesOnly f old new (HoldsEither n x)) stands.file
+      (λ t bytes from to image. either bytes (c.any_moment shown (batches_of n) settled t bytes from to image))
 
   -- what is left where a fuse stopped it
-  left : (outcome : Outcome) (k : ℕ) → Shows new before.journal.file (cond (is_gate_open outcome k) (batches_of n ++ batch_of before.journal (meta_item_bytes x) ∷ []) (batches_of n))
+  left : (outcome : Outcome) (k : ℕ)
+      → Shows new before.journal.file (cond (is_gate_open outcome k) (batches_of n ++ batch_of before.journal (meta_item_bytes x) ∷ []) (batches_of n))
       → LeftBy new n x outcome k
   unfolding HoldsItems
   left outcome k shows bytes is = go (is_gate_open outcome k) (shows bytes (ap new.shown stands.file ∙ is))
     where
-      go : (t : Bool) → IsJournal bytes (cond t (batches_of n ++ batch_of before.journal (meta_item_bytes x) ∷ []) (batches_of n)) → HoldsItems (cond t (with_item n x) n) bytes
+      go : (t : Bool) → IsJournal bytes (cond t (batches_of n ++ batch_of before.journal (meta_item_bytes x) ∷ []) (batches_of n))
+          → HoldsItems (cond t (with_item n x) n) bytes
       go true i = subst (IsJournal bytes) pushed i
       go false i = i
 
   module _ (shown : List ℕ) (settled : Settled old before.journal shown (batches_of n)) where
     -- an item that was committed
-    committed_on_file : {A : Type 0} (a : A) → Committed old new before.journal after.journal (meta_item_bytes x) (Ok tt) → CommitsOnFile old new n x before after (Ok a)
+    committed_on_file : {A : Type 0} (a : A) → Committed old new before.journal after.journal (meta_item_bytes x) (Ok tt)
+        → CommitsOnFile old new n x before after (Ok a)
     committed_on_file a c = record {
       any_moment = moments shown (Ok tt) c settled;
       ok = λ now is.
@@ -99,7 +108,8 @@ module _ (old new : View) (n : MetaNode) (x : MetaItem) (before after : MetaStat
     }
 
     -- one whose commit the device stopped
-    failed_on_file : {A : Type 0} → Committed old new before.journal after.journal (meta_item_bytes x) (Err commit.Device) → CommitsOnFile {A = A} old new n x before after (Err fault.Device)
+    failed_on_file : {A : Type 0} → Committed old new before.journal after.journal (meta_item_bytes x) (Err commit.Device)
+        → CommitsOnFile {A = A} old new n x before after (Err fault.Device)
     failed_on_file c = record {
       any_moment = moments shown (Err commit.Device) c settled;
       ok = tt;
@@ -108,19 +118,23 @@ module _ (old new : View) (n : MetaNode) (x : MetaItem) (before after : MetaStat
           subst (λ (file : ℕ). Caught old new file (item_calls before x) (LeftBy new n x) f) stands.file (record {
             now = caught.now;
             fuse = caught.fuse;
-            at_stop = λ alive stopped. let w = caught.at_stop alive stopped in record { behind = w.behind; told = w.told; holds = left f.outcome f.left w.holds };
+            at_stop = λ alive stopped. let w = caught.at_stop alive stopped in
+                record { behind = w.behind; told = w.told; holds = left f.outcome f.left w.holds };
           });
     }
 
 -- one for which memory ran out
-rested_on_file : {A : Type 0} (view : View) (n : MetaNode) (x : MetaItem) (s : MetaState) → StandsFor n s → (shown : List ℕ) → Settled view s.journal shown (batches_of n)
+rested_on_file : {A : Type 0} (view : View) (n : MetaNode) (x : MetaItem) (s : MetaState) → StandsFor n s → (shown : List ℕ)
+    → Settled view s.journal shown (batches_of n)
     → CommitsOnFile {A = A} view view n x s s (Err fault.NoMemory)
 unfolding HoldsItems
 rested_on_file view n x s h shown settled = record {
   any_moment = λ t c from to image.
       let now : t ≡ view.moment = omega (arith, from, to) in
-      let here : view.image s.journal.file view.moment c = subst (λ (m : ℕ). view.image s.journal.file m c) now (subst (λ (f : ℕ). view.image f t c) (sym h.file) image) in
-      inl (subst (λ (bytes : List ℕ). IsJournal bytes (batches_of n)) (sym (settled.on_disk.only c here)) (at_rest view s.journal shown (batches_of n) settled));
+      let here : view.image s.journal.file view.moment c = subst (λ (m : ℕ). view.image s.journal.file m c) now
+      (subst (λ (f : ℕ). view.image f t c) (sym h.file) image) in
+      inl (subst (λ (bytes : List ℕ). IsJournal bytes (batches_of n)) (sym (settled.on_disk.only c here))
+      (at_rest view s.journal shown (batches_of n) settled));
   ok = tt;
   spends = λ f is. tt;
 }
@@ -134,19 +148,22 @@ no_calls view work e = record {
 }
 
 -- an item is stored as the node says
-pub stored_puts : {A : Type 0} (old new : View) (Idle : Type 0) (n : MetaNode) (x : MetaItem) (answer : A) (before after : MetaState) (result : Result A MetaFault)
+pub stored_puts : {A : Type 0} (old new : View) (Idle : Type 0) (n : MetaNode) (x : MetaItem) (answer : A) (before after : MetaState)
+    (result : Result A MetaFault)
     → (Idle → new ≡ old) → StandsFor n before → IsDue false (meta_of n.items).sessions x → Stores old new Idle before after x answer result
     → Puts old new Idle n x answer before after result
 stored_puts {A} old new Idle n x answer before after (Ok a) idle h due s = record {
   ok = (s.answer_is, stands_with n x before after h due s.meta s.committed.state);
   stop = tt;
-  calls = calls_as {X = Unit {0}} {Y = A} {E = CommitFault} {F = MetaFault} old new before.journal.file (item_calls before x) (Ok tt) (Ok a) h.file s.committed.calls (λ calls made. made);
+  calls = calls_as {X = Unit {0}} {Y = A} {E = CommitFault} {F = MetaFault} old new before.journal.file (item_calls before x) (Ok tt)
+      (Ok a) h.file s.committed.calls (λ calls made. made);
   on_file = λ shown is on. committed_on_file old new n x before after h shown (on shown is) a s.committed;
 }
 stored_puts {A} old new Idle n x answer before after (Err fault.Device) idle h due c = record {
   ok = tt;
   stop = ap (λ (j : JournalState). j.failed) c.state;
-  calls = calls_as {X = Unit {0}} {Y = A} {E = CommitFault} {F = MetaFault} old new before.journal.file (item_calls before x) (Err commit.Device) (Err fault.Device) h.file c.calls (λ calls made. tt);
+  calls = calls_as {X = Unit {0}} {Y = A} {E = CommitFault} {F = MetaFault} old new before.journal.file (item_calls before x) (Err commit.Device)
+      (Err fault.Device) h.file c.calls (λ calls made. tt);
   on_file = λ shown is on. failed_on_file old new n x before after h shown (on shown is) c;
 }
 stored_puts {A} old new Idle n x answer before after (Err fault.NoMemory) idle h due rests =
@@ -165,11 +182,13 @@ stored_puts old new Idle n x answer before after (Err (fault.TooLarge size)) idl
 
 -- ---- what each call keeps
 
+-- no test is both
 differ : {A : Type 0} (b : Bool) → b ≡ false → b ≡ true → A
 differ b is is_too = absurd (cc (is, is_too))
 
 -- a store that failed rests, and says so
-pub works_failed : {A : Type 0} (view : View) (Idle : Type 0) (s : MetaState) → Stands view s.journal → Idle → s.journal.failed ≡ true → Works {A = A} view view Idle s s (Err fault.Failed)
+pub works_failed : {A : Type 0} (view : View) (Idle : Type 0) (s : MetaState) → Stands view s.journal → Idle → s.journal.failed ≡ true
+    → Works {A = A} view view Idle s s (Err fault.Failed)
 works_failed view Idle s stands idle failed = record {
   keeps = keeps_refl meta_file view;
   stands = stands;
@@ -179,7 +198,8 @@ works_failed view Idle s stands idle failed = record {
 }
 
 -- a store that has room for nothing more rests
-pub works_full : {A : Type 0} (view : View) (Idle : Type 0) (s : MetaState) → Stands view s.journal → s.journal.failed ≡ false → Works {A = A} view view Idle s s (Err fault.Full)
+pub works_full : {A : Type 0} (view : View) (Idle : Type 0) (s : MetaState) → Stands view s.journal → s.journal.failed ≡ false
+    → Works {A = A} view view Idle s s (Err fault.Full)
 works_full view Idle s stands works = record {
   keeps = keeps_refl meta_file view;
   stands = stands;
@@ -189,7 +209,8 @@ works_full view Idle s stands works = record {
 }
 
 -- and so does one that answers without a call
-pub works_resting : {A : Type 0} (view : View) (Idle : Type 0) (s : MetaState) (a : A) → Stands view s.journal → s.journal.failed ≡ false → Works view view Idle s s (Ok a)
+pub works_resting : {A : Type 0} (view : View) (Idle : Type 0) (s : MetaState) (a : A) → Stands view s.journal → s.journal.failed ≡ false
+    → Works view view Idle s s (Ok a)
 works_resting view Idle s a stands works = record {
   keeps = keeps_refl meta_file view;
   stands = stands;
@@ -200,7 +221,8 @@ works_resting view Idle s a stands works = record {
 
 -- storing an item
 pub stored_works : {A : Type 0} (old new : View) (Idle : Type 0) (x : MetaItem) (answer : A) (before after : MetaState) (result : Result A MetaFault)
-    → (Idle → new ≡ old) → before.journal.file ≡ meta_file → before.journal.failed ≡ false → Stands old before.journal → Stores old new Idle before after x answer result
+    → (Idle → new ≡ old) → before.journal.file ≡ meta_file → before.journal.failed ≡ false → Stands old before.journal
+    → Stores old new Idle before after x answer result
     → Works old new Idle before after result
 stored_works old new Idle x answer before after (Ok a) idle at works stands s = record {
   keeps = subst (λ (f : ℕ). Keeps f old new) at s.committed.keeps;
@@ -241,13 +263,15 @@ answered a (Err e) = Err e
 module _ (old new : View) (Idle : Type 0) (before mid after : MetaState) (x : MetaItem) (frame : List ℕ) (is : frame ≡ framed (meta_item_bytes x))
     (journal : mid.journal ≡ before.journal) (done : meta_in mid ≡ does (meta_in before) x) (kept : meta_in after ≡ meta_in mid) where
   -- the commit is that of the item
-  of_item : (r : Result (Unit {0}) CommitFault) → Committed old new mid.journal after.journal (body_of frame) r → Committed old new before.journal after.journal (meta_item_bytes x) r
+  of_item : (r : Result (Unit {0}) CommitFault) → Committed old new mid.journal after.journal (body_of frame) r
+      → Committed old new before.journal after.journal (meta_item_bytes x) r
   of_item r c =
       subst (λ (b : List ℕ). Committed old new before.journal after.journal b r) (ap body_of is ∙ body_framed (meta_item_bytes x))
       (subst (λ (k : JournalState). Committed old new k after.journal (body_of frame) r) journal c)
 
   -- an item is stored whose frame was committed
-  pub stored_by : {A : Type 0} (a : A) (r : Result (Unit {0}) MetaFault) → CommitsBody old new mid.journal after.journal (body_of frame) r → Stores old new Idle before after x a (answered a r)
+  pub stored_by : {A : Type 0} (a : A) (r : Result (Unit {0}) MetaFault) → CommitsBody old new mid.journal after.journal (body_of frame) r
+      → Stores old new Idle before after x a (answered a r)
   stored_by a (Ok u) c = record { answer_is = refl; meta = kept ∙ done; committed = of_item (Ok tt) c }
   stored_by a (Err fault.Device) c = of_item (Err commit.Device) c
   stored_by a (Err fault.Failed) wrong = absurd wrong
@@ -257,7 +281,8 @@ module _ (old new : View) (Idle : Type 0) (before mid after : MetaState) (x : Me
   stored_by a (Err (fault.TooLarge size)) wrong = absurd wrong
 
 -- there is room for the frame of an item
-pub frame_fits : (x : MetaItem) (frame : List ℕ) (room : ℕ) → frame ≡ framed (meta_item_bytes x) → meta_item_length x ≤ room → (13 < length frame) × (length frame - 13 ≤ room)
+pub frame_fits : (x : MetaItem) (frame : List ℕ) (room : ℕ) → frame ≡ framed (meta_item_bytes x) → meta_item_length x ≤ room
+    → (13 < length frame) × (length frame - 13 ≤ room)
 frame_fits x frame room is fits =
     let long : length frame ≡ length (meta_item_bytes x) + 13 = ap length is ∙ length-framed (meta_item_bytes x) in
     (omega (arith, long, item_is_some x), omega (arith, long, fits))

@@ -1,5 +1,6 @@
 -- A store is loaded: the size of its file, its journal, and then its items.
-use Rattle.std.proofs.Common.{◌≡◌, ◌≢◌, ◌⊎◌, inl, inr, ℕ, ◌+◌, ◌≤◌, ◌<◌, ◌==◌, Bool, false, List, [], ◌∷◌, ◌++◌, length, take, Option, Some, None, Result, Ok, Err, true, Vec, IfOk, MatchOption, IsErrOf, sym, ap, ◌∙◌, subst, refl, arith}
+use Rattle.std.proofs.Common.{◌≡◌, ◌≢◌, ◌⊎◌, inl, inr, ℕ, ◌+◌, ◌≤◌, ◌<◌, ◌==◌, Bool, false, List, [], ◌∷◌, ◌++◌, length, take, Option, Some, None, Result, Ok}
+use Rattle.std.proofs.Common.{Err, true, Vec, IfOk, MatchOption, IsErrOf, sym, ap, ◌∙◌, subst, refl, arith}
 use Rattle.std.specs.declared.alloc.Global.{Global}
 use Rattle.std.proofs.lemmas.List.{append-nil}
 use Rattle.dl_depot.specs.View.{View, Keeps}
@@ -41,7 +42,8 @@ record Reads (old new : View) : Type 0 where
 
 -- with what was answered
 loads : (old new : View) (result : Result (Option MetaState) MetaFault) → Reads old new → CountsFaults (old.faults meta_file) (new.faults meta_file) result
-    → ((bytes : List ℕ) → old.shown meta_file ≡ Some bytes → AnswersLoad new bytes result) → IfOk result (λ o. MatchOption o (Unit {0}) (IsStanding new)) → Loads old new result
+    → ((bytes : List ℕ) → old.shown meta_file ≡ Some bytes → AnswersLoad new bytes result) → IfOk result (λ o. MatchOption o (Unit {0}) (IsStanding new))
+    → Loads old new result
 loads old new result r counts answers standing = record {
   keeps = r.keeps;
   images = r.images;
@@ -73,6 +75,7 @@ read_on a m b result l r = record {
   unset = λ is. r.calls.unset (l.same_fuse ∙ is);
 }
 
+-- a list of no length is empty
 is_empty : (bytes : List ℕ) → 0 ≡ length bytes → bytes ≡ []
 is_empty [] e = refl
 is_empty (x ∷ xs) e = absurd (omega (arith, e))
@@ -96,7 +99,8 @@ module _ (a m b : View) (size : ℕ) (sized : Sized a m meta_file (Ok size)) (so
   pub unread_loads : (e : LoadFault) → Loaded m b meta_file (Err e) → Loads a b (Err (fault_of e))
   unread_loads e l = loads a b (Err (fault_of e)) (read_on a m b _ sized.looks l.reads) (counts e l.reads.counts) (λ bytes is. answers e l bytes is) tt
     where
-      counts : (e : LoadFault) → CountsLoad {X = JournalState × Vec Batch Global} (m.faults meta_file) (b.faults meta_file) (Err e) → CountsFaults {A = Option MetaState} (a.faults meta_file) (b.faults meta_file) (Err (fault_of e))
+      counts : (e : LoadFault) → CountsLoad {X = JournalState × Vec Batch Global} (m.faults meta_file) (b.faults meta_file) (Err e)
+          → CountsFaults {A = Option MetaState} (a.faults meta_file) (b.faults meta_file) (Err (fault_of e))
       counts (load.Damaged at) same = same ∙ sized.counts.passed
       counts (load.TooLarge n) same = same ∙ sized.counts.passed
       counts load.Device rose = rose_on _ _ _ sized.counts.passed rose
@@ -162,7 +166,8 @@ module _ (a m b : View) (size : ℕ) (sized : Sized a m meta_file (Ok size)) (so
       stands = record {
         meta = d.meta;
         file = l.same;
-        gate = l.in_row.place ∙ ap (λ n. 8 + n) (length-spelt batches.items) ∙ ap (λ (bodies : List (List ℕ)). 8 + span bodies) d.spelt ∙ sym (gate_behind d.items);
+        gate = l.in_row.place ∙ ap (λ n. 8 + n) (length-spelt batches.items) ∙ ap (λ (bodies : List (List ℕ)). 8 + span bodies) d.spelt
+            ∙ sym (gate_behind d.items);
         next = l.in_row.follows ∙ ap (λ n. l.in_row.first + n) (sym item_count);
         works = l.works;
         in_order = d.in_order;
@@ -178,7 +183,8 @@ module _ (a m b : View) (size : ℕ) (sized : Sized a m meta_file (Ok size)) (so
           (λ bytes is. record {
             node = node l.in_row.first;
             stands = stands;
-            settled = subst (Settled b j bytes) (batches_are l.in_row.first (numbered_is l.in_row.first batches.items l.in_row.runs)) (l.ok bytes (shown bytes is));
+            settled = subst (Settled b j bytes) (batches_are l.in_row.first (numbered_is l.in_row.first batches.items l.in_row.runs))
+                (l.ok bytes (shown bytes is));
           })
           (record { node = node l.in_row.first; stands = stands; journal = l.stands })
 

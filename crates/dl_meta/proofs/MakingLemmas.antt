@@ -1,5 +1,6 @@
 -- A journal that is made, and then has one body.
-use Rattle.std.proofs.Common.{◌≡◌, ℕ, zero, suc, ◌+◌, List, [], ◌∷◌, ◌++◌, length, take, Some, Bool, false, true, Result, Ok, Err, OnOk, IsErrOf, sym, ap, ap₂, ◌∙◌, subst, refl, arith, append_assoc, lit<}
+use Rattle.std.proofs.Common.{◌≡◌, ℕ, zero, suc, ◌+◌, List, [], ◌∷◌, ◌++◌, length, take, Some, Bool, false, true, Result, Ok, Err, OnOk, IsErrOf, sym, ap, ap₂}
+use Rattle.std.proofs.Common.{◌∙◌, subst, refl, arith, append_assoc, lit<}
 use Rattle.std.proofs.lemmas.List.{append-nil}
 use Rattle.dl_depot.specs.View.{View, Keeps}
 use Rattle.dl_depot.specs.declared.device_call.DeviceCall.{DeviceCall}
@@ -70,7 +71,8 @@ make_failed a b body e made = record {
   settled = λ was is. tt;
 }
   where
-    fewer : (calls : List DeviceCall) → (n : ℕ) × (b.calls meta_file ≡ Some (calls ++ take n (store_calls 0 start))) → (n : ℕ) × (b.calls meta_file ≡ Some (calls ++ take n (first_calls body)))
+    fewer : (calls : List DeviceCall) → (n : ℕ) × (b.calls meta_file ≡ Some (calls ++ take n (store_calls 0 start)))
+        → (n : ℕ) × (b.calls meta_file ≡ Some (calls ++ take n (first_calls body)))
     fewer calls n =
         let k = few n.0 (commit_calls (new_journal meta_file) body) in
         (k.0, n.1 ∙ ap (λ (l : List DeviceCall). Some (calls ++ l)) k.1)
@@ -88,10 +90,12 @@ commit_failed a m b k body e made c = record {
   settled = λ was is. tt;
 }
   where
-    rises : (e : CommitFault) → (IsErrOf {T = Unit {0}} {E = CommitFault} (Err e) commit.Failed → false ≡ true) → CountsCommit (m.faults meta_file) (b.faults meta_file) (Err e) → Rose (a.faults meta_file) (b.faults meta_file)
+    rises : (e : CommitFault) → (IsErrOf {T = Unit {0}} {E = CommitFault} (Err e) commit.Failed → false ≡ true)
+        → CountsCommit (m.faults meta_file) (b.faults meta_file) (Err e) → Rose (a.faults meta_file) (b.faults meta_file)
     rises commit.Device never counts = rose_on _ _ _ made.counts.passed counts
     rises commit.Failed never counts = absurd (let wrong = never refl in cc)
 
+-- a commit that succeeds
 pub commit_made : (a m b : View) (k : JournalState) (body : List ℕ) → Made a m meta_file (Ok (new_journal meta_file))
     → Committed m b (new_journal meta_file) k body (Ok tt) → MakesJournal a b body (Ok k)
 commit_made a m b k body made c = record {
@@ -110,7 +114,11 @@ commit_made a m b k body made c = record {
 pub make_stopped : (a : View) (conf : Conf) → Makes a a conf (Err fault.NoMemory)
 make_stopped a conf = record {
   keeps = keeps_refl meta_file a;
-  calls = record { told = λ calls are. tt; fronts = λ calls are. (0, are ∙ ap (λ (l : List DeviceCall). Some l) (sym (append-nil calls))); unset = λ none. none };
+  calls = record {
+    told = λ calls are. tt;
+    fronts = λ calls are. (0, are ∙ ap (λ (l : List DeviceCall). Some l) (sym (append-nil calls)));
+    unset = λ none. none;
+  };
   counts = refl;
   stop = tt;
   stands = tt;
@@ -137,13 +145,15 @@ unfolding meta_from meta_gate does
 made_stands conf j valid e = record {
   meta = refl;
   file = ap (λ (k : JournalState). k.file) e;
-  gate = ap (λ (k : JournalState). k.gate) e ∙ (let n : 8 + (length (meta_item_bytes (Setup conf)) + 13) ≡ 8 + 13 + length (meta_item_bytes (Setup conf)) = omega arith in n);
+  gate = ap (λ (k : JournalState). k.gate) e
+      ∙ (let n : 8 + (length (meta_item_bytes (Setup conf)) + 13) ≡ 8 + 13 + length (meta_item_bytes (Setup conf)) = omega arith in n);
   next = ap (λ (k : JournalState). k.next) e;
   works = ap (λ (k : JournalState). k.failed) e;
   in_order = (record { kind = (0, lit< tt, refl); spelt = valid; fits = tt }, tt);
   some = lit< tt;
 }
 
+-- a new store stands for a new node, and is on its file
 pub store_made : (a b : View) (conf : Conf) (j : JournalState) → IsConf conf → MakesJournal a b (meta_item_bytes (Setup conf)) (Ok j)
     → Makes a b conf (Ok (record { tree = first_tree conf; sessions = none_known; journal = j }))
 unfolding batches_of
@@ -166,20 +176,27 @@ store_made a b conf j valid made = record {
 
 -- ---- the same, of the file that has the metadata file's number
 
-made_first : (a m : View) (f : ℕ) (j : JournalState) → f ≡ meta_file → Made a m f (Ok j) → (j ≡ new_journal meta_file) × Made a m meta_file (Ok (new_journal meta_file))
+-- a journal that was made in the metadata file
+made_first : (a m : View) (f : ℕ) (j : JournalState) → f ≡ meta_file → Made a m f (Ok j)
+    → (j ≡ new_journal meta_file) × Made a m meta_file (Ok (new_journal meta_file))
 made_first a m f j at made =
     let k : Made a m meta_file (Ok j) = subst (λ (n : ℕ). Made a m n (Ok j)) at made in
     (k.state, subst (λ (x : JournalState). Made a m meta_file (Ok x)) k.state k)
 
+-- a journal that was not made
 pub make_failed_at : (a b : View) (f : ℕ) (body : List ℕ) (e : DeviceFault) → f ≡ meta_file → Made a b f (Err e) → MakesJournal a b body (Err fault.Device)
 make_failed_at a b f body e at made = make_failed a b body e (subst (λ (n : ℕ). Made a b n (Err e)) at made)
 
-pub commit_made_at : (a m b : View) (f : ℕ) (j k : JournalState) (body : List ℕ) → f ≡ meta_file → Made a m f (Ok j) → Committed m b j k body (Ok tt) → MakesJournal a b body (Ok k)
+-- a commit that succeeds
+pub commit_made_at : (a m b : View) (f : ℕ) (j k : JournalState) (body : List ℕ) → f ≡ meta_file → Made a m f (Ok j) → Committed m b j k body (Ok tt)
+    → MakesJournal a b body (Ok k)
 commit_made_at a m b f j k body at made c =
     let first = made_first a m f j at made in
     commit_made a m b k body first.1 (subst (λ (x : JournalState). Committed m b x k body (Ok tt)) first.0 c)
 
-pub commit_failed_at : (a m b : View) (f : ℕ) (j k : JournalState) (body : List ℕ) (e : CommitFault) → f ≡ meta_file → Made a m f (Ok j) → Committed m b j k body (Err e)
+-- a commit that fails
+pub commit_failed_at : (a m b : View) (f : ℕ) (j k : JournalState) (body : List ℕ) (e : CommitFault) → f ≡ meta_file → Made a m f (Ok j)
+    → Committed m b j k body (Err e)
     → MakesJournal a b body (Err fault.Device)
 commit_failed_at a m b f j k body e at made c =
     let first = made_first a m f j at made in
@@ -187,13 +204,17 @@ commit_failed_at a m b f j k body e at made c =
 
 -- ---- the same, of the frame that was committed
 
+-- the body of the configuration's frame
 body_is : (conf : Conf) (frame : List ℕ) → frame ≡ framed (meta_item_bytes (Setup conf)) → body_of frame ≡ meta_item_bytes (Setup conf)
 body_is conf frame is = ap body_of is ∙ body_framed (meta_item_bytes (Setup conf))
 
-pub journal_failed_by : (a b : View) (conf : Conf) (frame : List ℕ) (e : MetaFault) → frame ≡ framed (meta_item_bytes (Setup conf)) → MakesJournal a b (body_of frame) (Err e)
+-- the journal was not made
+pub journal_failed_by : (a b : View) (conf : Conf) (frame : List ℕ) (e : MetaFault) → frame ≡ framed (meta_item_bytes (Setup conf))
+    → MakesJournal a b (body_of frame) (Err e)
     → Makes a b conf (Err e)
 journal_failed_by a b conf frame e is made = journal_failed a b conf e (subst (λ (l : List ℕ). MakesJournal a b l (Err e)) (body_is conf frame is) made)
 
+-- the store was made
 pub store_made_by : (a b : View) (conf : Conf) (frame : List ℕ) (tree : Nodes) (sessions : Known) (j : JournalState) (s : MetaState)
     → frame ≡ framed (meta_item_bytes (Setup conf)) → IsConf conf → tree ≡ first_tree conf → sessions ≡ none_known → MakesJournal a b (body_of frame) (Ok j)
     → s ≡ record { tree = tree; sessions = sessions; journal = j } → Makes a b conf (Ok s)

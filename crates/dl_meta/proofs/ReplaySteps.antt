@@ -24,7 +24,8 @@ goes_on_to bodies i at end m n body r within is e d =
     (goes_on bodies i at m n body r within is (subst (λ (k : ℕ). DoesItem k (i == 0) body m n) (ends_at at end body e) d))
 
 -- a body at which reading ends
-pub ends_by : (bodies : List (List ℕ)) (i at end : ℕ) (m n : Meta) (body : List ℕ) (f : MetaFault) → Reached bodies i at m → i < length bodies → body ≡ get_or bodies i body
+pub ends_by : (bodies : List (List ℕ)) (i at end : ℕ) (m n : Meta) (body : List ℕ) (f : MetaFault) → Reached bodies i at m → i < length bodies
+    → body ≡ get_or bodies i body
     → end ≡ at + (13 + length body) → DoesBody end (i == 0) body m n (Err f) → DoesBodies bodies (Err f)
 ends_by bodies i at end m n body (fault.Damaged place) r within is e refused =
     stops bodies i at m body place r within is (subst (λ (k : ℕ). placed k (meta_item_in (i == 0) m.sessions body) ≡ Err place) (ends_at at end body e) refused)
@@ -47,7 +48,8 @@ pub within_bodies : (i : ℕ) (batches : List Batch) → i < length batches → 
 within_bodies i batches within = omega (arith, within, length-bodies_in batches)
 
 -- the body of the batch at a place
-pub body_at : (i : ℕ) (batches : List Batch) (b : Batch) (body : List ℕ) → i < length batches → b ≡ get_or batches i b → body ≡ b.body → body ≡ get_or (bodies_in batches) i body
+pub body_at : (i : ℕ) (batches : List Batch) (b : Batch) (body : List ℕ) → i < length batches → b ≡ get_or batches i b → body ≡ b.body
+    → body ≡ get_or (bodies_in batches) i body
 body_at i batches b body within is same =
     same ∙ ap (λ (x : Batch). x.body) is ∙ sym (get_or-map (λ (x : Batch). x.body) batches i b body within)
 

@@ -1,5 +1,6 @@
 -- The bodies of a journal are read one by one.
-use Rattle.std.proofs.Common.{◌≡◌, ℕ, zero, suc, ◌+◌, ◌≤◌, ◌<◌, ◌==◌, Bool, true, false, List, [], ◌∷◌, ◌++◌, length, map, drop, get_or, Result, Ok, Err, sym, ap, ◌∙◌, subst, refl, arith, append_assoc, length-append, add-one}
+use Rattle.std.proofs.Common.{◌≡◌, ℕ, zero, suc, ◌+◌, ◌≤◌, ◌<◌, ◌==◌, Bool, true, false, List, [], ◌∷◌, ◌++◌, length, map, drop, get_or, Result, Ok, Err, sym}
+use Rattle.std.proofs.Common.{ap, ◌∙◌, subst, refl, arith, append_assoc, length-append, add-one}
 use Rattle.std.proofs.lemmas.List.{append-nil, drop_more}
 use Rattle.std.proofs.Math.Seq.{drop-cons}
 use Rattle.std.proofs.lemmas.Bool.Decides.{nat_tests}
@@ -44,17 +45,20 @@ item_refused : (at : ℕ) (is_first : Bool) (m : Meta) (older : List MetaItem) (
 unfolding meta_items_at
 item_refused at is_first m older body more place e = rw e refl
 
+-- behind the last body the items are all
 at_end : (at : ℕ) (is_first : Bool) (m : Meta) (older : List MetaItem) → meta_items_at at is_first m older [] ≡ Ok older
 unfolding meta_items_at
 at_end at is_first m older = refl
 
+-- what is still to come begins with the next body
 next_body : (i : ℕ) (bodies : List (List ℕ)) (body : List ℕ) → i < length bodies → body ≡ get_or bodies i body → drop i bodies ≡ body ∷ drop (i + 1) bodies
 next_body i bodies body within is = drop_more bodies i body within ∙ ap (λ (b : List ℕ). b ∷ drop (i + 1) bodies) (sym is)
 
 -- how many bytes are still to come
 pub room_left : (bodies : List (List ℕ)) (i at : ℕ) (m : Meta) (body : List ℕ) → Reached bodies i at m → i < length bodies → body ≡ get_or bodies i body
     → at + 13 + length body ≤ 8 + span bodies
-room_left bodies i at m body r within is = let e : span (drop i bodies) ≡ 13 + length body + span (drop (i + 1) bodies) = ap span (next_body i bodies body within is) in omega (arith, e, r.size)
+room_left bodies i at m body r within is = let e : span (drop i bodies) ≡ 13 + length body + span (drop (i + 1) bodies) = ap span
+    (next_body i bodies body within is) in omega (arith, e, r.size)
 
 -- one body more
 pub goes_on : (bodies : List (List ℕ)) (i at : ℕ) (m n : Meta) (body : List ℕ) → Reached bodies i at m → i < length bodies → body ≡ get_or bodies i body
@@ -93,7 +97,8 @@ stops bodies i at m body place r within is e =
 pub done : (bodies : List (List ℕ)) (i at : ℕ) (m : Meta) → Reached bodies i at m → drop i bodies ≡ [] → DoesItems bodies m
 done bodies i at m r end = record {
   items = r.older;
-  read = sym r.rest ∙ ap (meta_items_at at (is_first_behind r.older) (meta_of r.older) r.older) end ∙ at_end at (is_first_behind r.older) (meta_of r.older) r.older;
+  read = sym r.rest ∙ ap (meta_items_at at (is_first_behind r.older) (meta_of r.older) r.older) end ∙ at_end at (is_first_behind r.older)
+      (meta_of r.older) r.older;
   in_order = r.in_order;
   spelt = r.spelt ∙ ap (λ (l : List (List ℕ)). bodies_of r.older ++ l) end ∙ append-nil (bodies_of r.older);
   meta = r.meta;
@@ -113,6 +118,7 @@ numbered_is first (b ∷ bs) runs =
     ap (λ (l : List Batch). b ∷ l) (numbered_is (first + 1) bs runs.1.1.1)
     ∙ ap (λ n. (record { number = n; body = b.body }) ∷ numbered (first + 1) (bodies_in bs)) runs.0
 
+-- one more body spans its length and 13
 span-push : (bodies : List (List ℕ)) (body : List ℕ) → span (bodies ++ body ∷ []) ≡ span bodies + 13 + length body
 span-push [] body = omega arith
 span-push (b ∷ bodies) body = omega (arith, span-push bodies body)
@@ -123,6 +129,7 @@ unfolding meta_gate
 gate_behind [] = refl
 gate_behind (x ∷ older) = omega (arith, gate_behind older, span-push (bodies_of older) (meta_item_bytes x))
 
+-- there are as many bodies as batches
 pub length-bodies_in : (batches : List Batch) → length (bodies_in batches) ≡ length batches
 length-bodies_in [] = refl
 length-bodies_in (b ∷ bs) = omega (arith, length-bodies_in bs)

@@ -27,7 +27,8 @@ put_same t p n here = same_tree (insert t p n) t each
         go (inr e) = cond-false _ _ _ e
 
 -- a lasting node that is created below the root is put into the tree, and nothing else changes
-pub created_below : (t : Nodes) (path bytes : List ℕ) → IsNewBelowRoot t path → (after_request t 0 (op.One (Create path bytes Lasting))).1 ≡ insert t path (new_node bytes Lasting 0)
+pub created_below : (t : Nodes) (path bytes : List ℕ) → IsNewBelowRoot t path
+    → (after_request t 0 (op.One (Create path bytes Lasting))).1 ≡ insert t path (new_node bytes Lasting 0)
 unfolding after_request outcome_of child_outcome
 created_below t path bytes w =
     let same : (record w.above.node { owner = None }) ≡ w.above.node = ap (λ (o : Option ℕ). record w.above.node { owner = o }) (sym w.above.lasts) in
@@ -35,11 +36,12 @@ created_below t path bytes w =
     (ap (λ (n : Node). insert (insert t root n) path (new_node bytes Lasting 0)) same
     ∙ ap (λ (u : Nodes). insert u path (new_node bytes Lasting 0)) (put_same t root w.above.node w.above.there)))))))
 
--- the paths of the nodes above all streams and all ledgers
+-- the path of the node above all streams
 pub streams_spelt : path_of Streams ≡ codes "/streams"
 unfolding path_of
 streams_spelt = refl
 
+-- and that of all ledgers
 pub ledgers_spelt : path_of Ledgers ≡ codes "/ledgers"
 unfolding path_of
 ledgers_spelt = refl
@@ -74,10 +76,12 @@ conf_alone : IsNewBelowRoot root_alone (path_of Conf)
 unfolding path_of parent_of
 conf_alone = alone (path_of Conf) refl refl refl
 
+-- the node above all streams is new behind the configuration
 streams_grown : (bytes : List ℕ) → IsNewBelowRoot (insert root_alone (path_of Conf) (new_node bytes Lasting 0)) (path_of Streams)
 unfolding path_of parent_of
 streams_grown bytes = grown root_alone (path_of Conf) (path_of Streams) bytes conf_alone (alone (path_of Streams) refl refl refl) refl refl
 
+-- the node above all ledgers is new behind both
 ledgers_grown : (bytes more : List ℕ)
     → IsNewBelowRoot (insert (insert root_alone (path_of Conf) (new_node bytes Lasting 0)) (path_of Streams) (new_node more Lasting 0)) (path_of Ledgers)
 unfolding path_of parent_of
@@ -89,10 +93,13 @@ ledgers_grown bytes more =
 pub conf_new : (t : Nodes) (path : List ℕ) → t ≡ root_alone → path ≡ path_of Conf → IsNewBelowRoot t path
 conf_new t path e p = rw e (rw p conf_alone)
 
-pub streams_new : (t u : Nodes) (path next bytes : List ℕ) → t ≡ root_alone → path ≡ path_of Conf → u ≡ insert t path (new_node bytes Lasting 0) → next ≡ path_of Streams
+-- the node above all streams
+pub streams_new : (t u : Nodes) (path next bytes : List ℕ) → t ≡ root_alone → path ≡ path_of Conf → u ≡ insert t path (new_node bytes Lasting 0)
+    → next ≡ path_of Streams
     → IsNewBelowRoot u next
 streams_new t u path next bytes e p f q = rw f (rw e (rw p (rw q (streams_grown bytes))))
 
+-- the node above all ledgers
 pub ledgers_new : (t u v : Nodes) (path next last bytes more : List ℕ) → t ≡ root_alone → path ≡ path_of Conf → u ≡ insert t path (new_node bytes Lasting 0)
     → next ≡ path_of Streams → v ≡ insert u next (new_node more Lasting 0) → last ≡ path_of Ledgers → IsNewBelowRoot v last
 ledgers_new t u v path next last bytes more e p f q g r = rw g (rw f (rw e (rw p (rw q (rw r (ledgers_grown bytes more))))))

@@ -39,6 +39,7 @@ Stores old new Idle before after x answer (Err fault.NoMemory) = Rests Idle befo
 Stores old new Idle before after x answer (Err _) = ⊥
 
 -- the same, after a test of the room
-pub record Runs {A : Type 0} (old new : View) (Idle : Type 0) (before after : MetaState) (x : MetaItem) (answer : A) (result : Result A MetaFault) : Type 0 where
+pub record Runs {A : Type 0} (old new : View) (Idle : Type 0) (before after : MetaState) (x : MetaItem) (answer : A)
+    (result : Result A MetaFault) : Type 0 where
   pub room : meta_item_length x ≤ spare_of before.journal → Stores old new Idle before after x answer result
   pub full : spare_of before.journal < meta_item_length x → (result ≡ Err fault.Full) × Rests Idle before after

@@ -1,5 +1,6 @@
 -- What the calls of a metadata store answer and do.
-use Rattle.std.specs.Prelude.{◌≡◌, ◌↔◌, ℕ, ◌+◌, ◌<◌, Bool, true, false, cond, if◌then◌else◌, List, length, Option, Some, None, Result, Ok, Err, IfOk, IfErr, OnOk, IsErrOf, MatchResult}
+use Rattle.std.specs.Prelude.{◌≡◌, ◌↔◌, ℕ, ◌+◌, ◌<◌, Bool, true, false, cond, if◌then◌else◌, List, length, Option, Some, None, Result, Ok, Err, IfOk, IfErr}
+use Rattle.std.specs.Prelude.{OnOk, IsErrOf, MatchResult}
 use Rattle.dl_types.specs.declared.meta_op.MetaOp.{MetaOp}
 use Rattle.dl_msg.specs.declared.meta_reply.MetaReply.{MetaReply}
 use Rattle.dl_depot.specs.View.{View, Keeps, LeavesOnly}
@@ -89,7 +90,8 @@ pub record CommitsOnFile {A : Type 0} (old new : View) (n : MetaNode) (x : MetaI
   pub spends : (f : Fuse) → old.fuse meta_file ≡ Some (Some f) → SpendsFuse old new n x (item_calls before x) f result
 
 -- an item is committed, and then the answer is given
-pub record Puts {A : Type 0} (old new : View) (Idle : Type 0) (n : MetaNode) (x : MetaItem) (answer : A) (before after : MetaState) (result : Result A MetaFault) : Type 0 where
+pub record Puts {A : Type 0} (old new : View) (Idle : Type 0) (n : MetaNode) (x : MetaItem) (answer : A) (before after : MetaState)
+    (result : Result A MetaFault) : Type 0 where
   pub ok : IfOk result (λ a. (a ≡ answer) × StandsFor (with_item n x) after)
   pub stop : IfErr result (IsStop Idle before after)
   pub calls : MakesCalls old new meta_file (item_calls before x) result

@@ -8,7 +8,8 @@ ghost use Rattle.dl_fields.specs.Codes.{coded, code_from};
 ghost use Rattle.dl_session.specs.Sessions.{number_in, is_live};
 ghost use Rattle.dl_formats.specs.Reading.{between_from, conf_from};
 ghost use Rattle.dl_rules_nodes.specs.Items.{meta_code};
-ghost use Rattle.dl_rules_nodes.specs.MetaReading.{kinds_due, is_above, new_session_from, live_session_from, new_number_from, meta_rest_from, meta_item_from, meta_item_in};
+ghost use Rattle.dl_rules_nodes.specs.MetaReading.{kinds_due, is_above, new_session_from, live_session_from};
+ghost use Rattle.dl_rules_nodes.specs.MetaReading.{new_number_from, meta_rest_from, meta_item_from, meta_item_in};
 ghost use Rattle.dl_rules_nodes.specs.MetaOrder.{IsDue};
 ghost use Rattle.dl_meta.specs.Changes.{item_for, kind_for, maybe_kind};
 

@@ -2,7 +2,7 @@
 mod requests;
 mod spoilt;
 
-ghost use Rattle.std.specs.Prelude.{IfOk};
+ghost use Rattle.std.specs.Prelude.{◌≡◌, IfOk};
 ghost use Rattle.dl_depot.specs.Memory.{view_by};
 ghost use Rattle.dl_journal.specs.Settled.{Stands};
 ghost use Rattle.dl_tree_msg.specs.declared.rule.PathRule.TheVariants.{AllButConf};

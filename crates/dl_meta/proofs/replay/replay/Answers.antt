@@ -21,7 +21,8 @@ pub returns-in_err-replay_body : goal.returns-in_err-replay_body
 returns-in_err-replay_body c =
     let p = err_from_is_err_and c.from_residual-in_err-replay_body.result c.from_residual-in_err-replay_body.ensures.1 in
     rw (p.1, p.2) (ends_by (bodies_in c.args.batches.now) c.loop-i.i c.loop-i.end (c.loop-i.end + (13 + length c.as_slice-body.result.now))
-    (meta_with c.loop-i.tree c.loop-i.sessions) (meta_with c.replay_body.new.tree c.replay_body.new.sessions) c.as_slice-body.result.now c.in_err-replay_body.field-0.0
+    (meta_with c.loop-i.tree c.loop-i.sessions) (meta_with c.replay_body.new.tree c.replay_body.new.sessions) c.as_slice-body.result.now
+    c.in_err-replay_body.field-0.0
     c.loop-i.invariant (within_bodies c.loop-i.i c.args.batches.now c.loop-i-test.true)
     (body_at c.loop-i.i c.args.batches.now c.index-batches-i.result c.as_slice-body.result.now c.loop-i-test.true c.index-batches-i.is c.as_slice-body.ensures)
     refl c.in_err-replay_body.ensures)

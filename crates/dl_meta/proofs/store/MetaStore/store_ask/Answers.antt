@@ -25,7 +25,8 @@ returns-in-Ok g c =
     ap (λ (s : MetaState). after_request s.tree c.args.session op) (sym c.self.view_is) ∙ c.in_ok-answer.ensures.ok in
     subst (λ (a : MetaAnswer). IsStored (g.D.Depot.view c.args.depot.now) (g.D.Depot.view c.commit.new.depot) before c.commit.new.self
     (Ask c.args.session c.args.number op) a answer) (answer_is (meta_in before) c.apply.new.self c.args.session op answer ran)
-    (stored_by (g.D.Depot.view c.args.depot.now) (g.D.Depot.view c.commit.new.depot) (Unit {0}) before mid c.commit.new.self (Ask c.args.session c.args.number op)
+    (stored_by (g.D.Depot.view c.args.depot.now) (g.D.Depot.view c.commit.new.depot) (Unit {0}) before mid c.commit.new.self
+    (Ask c.args.session c.args.number op)
     c.deref_mut.result.now (c.deref_mut.ensures.value ∙ c.in_ok-frame.ensures) (ap (λ (s : MetaState). s.journal) c.self.view_is)
     (does_ask (meta_in before) c.apply.new.self c.ran.new.self c.args.session c.args.number op answer ran
     (c.ran.ensures ∙ ap (λ (s : MetaState). after_run s.sessions c.args.session c.args.number) c.self.view_is))

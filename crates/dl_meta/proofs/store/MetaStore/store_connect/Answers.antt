@@ -29,8 +29,10 @@ returns-in-Ok g c =
     let session = c.last-session.result + 1 in
     let mid : MetaState = record { tree = c.self.inside.tree; sessions = c.connect.new.self; journal = c.self.inside.journal } in
     let last : c.last-session.result ≡ before.sessions.last = c.last-session.ensures ∙ ap (λ (s : MetaState). s.sessions.last) c.self.view_is in
-    subst (λ (n : ℕ). IsStored (g.D.Depot.view c.args.depot.now) (g.D.Depot.view c.commit.new.depot) before c.commit.new.self (Connect (n + 1)) (n + 1) session) last
-    (stored_by (g.D.Depot.view c.args.depot.now) (g.D.Depot.view c.commit.new.depot) (Unit {0}) before mid c.commit.new.self (Connect session) c.deref_mut.result.now
+    subst (λ (n : ℕ). IsStored (g.D.Depot.view c.args.depot.now) (g.D.Depot.view c.commit.new.depot) before c.commit.new.self (Connect (n + 1))
+    (n + 1) session) last
+    (stored_by (g.D.Depot.view c.args.depot.now) (g.D.Depot.view c.commit.new.depot) (Unit {0}) before mid c.commit.new.self (Connect session)
+    c.deref_mut.result.now
     (c.deref_mut.ensures.value ∙ c.in_ok-frame.ensures) (ap (λ (s : MetaState). s.journal) c.self.view_is)
     (does_connect (meta_in before) c.self.inside.tree c.connect.new.self session (ap (λ (s : MetaState). s.tree) c.self.view_is)
     (c.in_ok-connect.ensures.ok.1 ∙ ap (λ (s : MetaState). after_connect s.sessions) c.self.view_is))

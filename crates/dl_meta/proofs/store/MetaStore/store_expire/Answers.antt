@@ -25,7 +25,8 @@ pub returns-in-Ok : goal.returns-in-Ok
 returns-in-Ok g c =
     let before = c.args.self.now in
     let mid : MetaState = record { tree = c.drop_session.new.self; sessions = c.expire.new.self; journal = c.self.inside.journal } in
-    stored_by (g.D.Depot.view c.args.depot.now) (g.D.Depot.view c.commit.new.depot) (Unit {0}) before mid c.commit.new.self (Expire c.args.session) c.deref_mut.result.now
+    stored_by (g.D.Depot.view c.args.depot.now) (g.D.Depot.view c.commit.new.depot) (Unit {0}) before mid c.commit.new.self (Expire c.args.session)
+    c.deref_mut.result.now
     (c.deref_mut.ensures.value ∙ c.in_ok-frame.ensures) (ap (λ (s : MetaState). s.journal) c.self.view_is)
     (does_expire (meta_in before) c.drop_session.new.self c.expire.new.self c.args.session
     (c.drop_session.ensures ∙ ap (λ (s : MetaState). without_session s.tree c.args.session) c.self.view_is)
