@@ -1,2 +1,3 @@
 pub mod BookieLaws
 pub mod ItemLaws
+pub mod MetaItemLaws

@@ -5,5 +5,6 @@ pub mod Bookies
 pub mod Metadata
 pub mod Reading
 pub mod MetaReading
+pub mod MetaOrder
 pub mod Loads
 pub mod Laws

@@ -1,6 +1,7 @@
-//! What holds of a storage node, whatever it takes, and of the bytes of its items: laws on their definitions, with no code.
+//! What holds of a storage node, whatever it takes, and of the bytes of the items of both kinds of nodes: laws on their
+//! definitions, with no code.
 
-ghost use Rattle.dl_rules_nodes.specs.Laws.{DurableItemsOnlyGrow, CommitsMoveItems, FencesStay, LengthsAreOfBytes, ItemsAreExact, BodiesAreExact};
+ghost use Rattle.dl_rules_nodes.specs.Laws.{DurableItemsOnlyGrow, CommitsMoveItems, FencesStay, LengthsAreOfBytes, ItemsAreExact, BodiesAreExact, MetaItemsAreExact, MetaListsAreExact};
 
 /// A message changes no durable item, and a commit puts the queued items behind them; one that was stopped does so, or leaves
 /// them as they are.
@@ -31,4 +32,14 @@ pub fn items_are_exact()
 /// The body of a batch is read as its items, and as no others.
 pub fn bodies_are_exact()
     ensures { BodiesAreExact }
+{}
+
+/// Each item of the metadata node that may come is read from its one spelling, and what is read may come and is spelt so.
+pub fn meta_items_are_exact()
+    ensures { MetaItemsAreExact }
+{}
+
+/// A metadata node is loaded from the bodies of its items, and from no others.
+pub fn meta_lists_are_exact()
+    ensures { MetaListsAreExact }
 {}

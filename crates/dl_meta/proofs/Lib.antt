@@ -1,0 +1,14 @@
+pub mod Frames
+pub mod Files
+pub mod Dues
+pub mod Lifting
+pub mod Trees
+pub mod Items
+pub mod MakingLemmas
+pub mod Replays
+pub mod LoadLemmas
+pub mod GivingBack
+pub mod Calls
+pub mod Asks
+pub mod ReplaySteps
+pub mod ConfRoom

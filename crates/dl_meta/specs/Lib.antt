@@ -1,0 +1,9 @@
+pub mod State
+pub mod Standing
+pub mod Turns
+pub mod Storing
+pub mod Changes
+pub mod Growing
+pub mod Making
+pub mod Loading
+pub mod Laws
