@@ -80,7 +80,7 @@ class Definitions:
         self.antt, self.world, self.made = antt, antt.World(crates), {}
 
     def function(self, path):
-        """A definition as a function, by its crate, file and name: `dl_rules_nodes.Bookies.taken`."""
+        """A definition as a function, by its crate, file and name: `dl_rules_nodes.Bookies.table_row`."""
         crate, rest = path.split(".", 1)
         return self.world.function("Rattle.%s.specs.%s" % (crate, rest))
 

@@ -758,7 +758,7 @@ EXPECTED = {
     "only lines of clients are asked for their client, and a settle for its turns": """dl_machine.Lines.client_in dl_machine.Lines.idle_client
         dl_machine.Lines.order_of dl_machine.Lines.plain_atoms dl_rules_client.Clients.takes_order""",
     "no message of this kind comes to this receiver, or from this sender": """dl_machine.Atoms.meta_takes dl_machine.Atoms.takes_letter
-        dl_rules_client.Clients.bookie_in dl_rules_client.Clients.takes_msg dl_rules_nodes.Bookies.looked""",
+        dl_rules_client.Clients.bookie_in dl_rules_client.Clients.takes_msg dl_rules_nodes.Bookies.look_answer""",
     "the bound on the turns of a settle is never met": "dl_machine.Runs.settles dl_machine.Runs.settles_fit",
     "a closed ledger is that of the segment in progress that names it, and a point is set in a stream's own node": """dl_machine.Growth.closed_count
         dl_machine.Growth.closing_at dl_machine.Growth.closing_of dl_machine.Growth.first_in dl_machine.Growth.point_events
@@ -779,7 +779,7 @@ EXPECTED = {
         dl_rules_stream.Requests.path_nth dl_rules_stream.SegmentRecoveries.end_by dl_rules_stream.SegmentRecoveries.end_in
         dl_rules_stream.SegmentRecoveries.not_completed dl_record.Building.last_of dl_record.Reading dl_codec.Fields.number_at dl_fields.Readers.whole_field
         dl_formats.Reading.fault_at dl_formats.Keys.parts_of""",
-    "names of children come in byte order, and only the last segment is in progress": "dl_rules_stream.Listings.placed dl_rules_stream.Locks.least_with",
+    "names of children come in byte order, and only the last segment is in progress": "dl_rules_stream.Listings.with_segment dl_rules_stream.Locks.least_with",
     "an order's tagged answers of one kind are of one ledger": "dl_rules_ledger.Readers.hears dl_rules_ledger.Recoveries.recovers",
     "numbers at their very end": """dl_rules_ledger.Recoveries.reads dl_rules_nodes.Limits.room_for_body dl_rules_stream.Opens.allocates
         dl_types.Places.after_place""",

@@ -17,7 +17,7 @@ use Rattle.dl_tree.proofs.PartLemmas.{parts_found}
 use Rattle.dl_formats.specs.Keys.{Key, Conf, Streams, Ledgers, Ledger, Stream, MaxSeq, Cut, Alloc, Locks, Member, Segs, Progress, Completed, path_of, parts_of, ledger_stem, member_stem, is_key, NoSlash, IsKey, parent_key, name_of, front_of}
 use Rattle.dl_formats.proofs.KeyLemmas.{insert_by_key, remove_by_key, keys_told, by_parents, with_slashes_more}
 use Rattle.dl_rules_stream.specs.Requests.{makes}
-use Rattle.dl_law_meta.specs.Keyed.{node, is_apart, OthersStay, lasting, ephemeral, counted, HasVersion, IsThere, IsParent, IsNew, IsSet, IsCounted, IsGone}
+use Rattle.dl_law_meta.specs.Keyed.{node, is_apart, OthersStay, lasting, ephemeral, with_count, HasVersion, IsThere, IsParent, IsNew, IsSet, IsCounted, IsGone}
 use Rattle.dl_law_meta.proofs.Done.{set_done, create_done, delete_done, check_done}
 
 pub same_key : (k : Key) → is_key k k ≡ true
@@ -142,7 +142,7 @@ pub record CountedAt (t u : Nodes) (p : Key) (kid : ℕ → Key) (new : Node) (t
   pub free : node t (kid number) ≡ None
   pub answer : told ≡ Made (path_of (kid number))
   pub parent : Nodes
-  pub counts : Puts t parent p (Some (counted old))
+  pub counts : Puts t parent p (Some (with_count old))
   pub puts : Puts parent u (kid number) (Some new)
 
 small_is : (b : Bool) (n : ℕ) → b ≡ true → (b && nat_le (10 ^ 10) n) ≡ false → n < 10 ^ 10
@@ -152,7 +152,7 @@ small_is false n c e = absurd (true≢false (sym c))
 counted_path : (stem : List ℕ) (mode : Mode) (n : Node) → is_counted mode ≡ true → made_path stem mode n ≡ stem ++ digits 10 n.counter
 counted_path stem mode n c = cond-true (is_counted mode) (stem ++ digits 10 n.counter) stem c
 
-counted_node : (mode : Mode) (n : Node) → is_counted mode ≡ true → parent_after mode n ≡ counted n
+counted_node : (mode : Mode) (n : Node) → is_counted mode ≡ true → parent_after mode n ≡ with_count n
 counted_node mode n c = ap (λ (b : Bool). record n { counter = cond b (n.counter + 1) n.counter }) c
 
 pub count_at : (t : Nodes) (session : ℕ) (stem : List ℕ) (mode : Mode) (bytes : List ℕ) (p : Key) (kid : ℕ → Key) → IsKey p → is_counted mode ≡ true
@@ -173,14 +173,14 @@ count_at t session stem mode bytes p kid h c up named each a e =
       room = small;
       free = ap (get t) (sym path) ∙ d.free;
       answer = d.told ∙ ap Made path;
-      parent = insert t (path_of p) (counted d.parent);
-      counts = record { at = λ m i. insert_by_key t p (counted d.parent) m h i };
+      parent = insert t (path_of p) (with_count d.parent);
+      counts = record { at = λ m i. insert_by_key t p (with_count d.parent) m h i };
       puts = record {
         at = λ m i.
             ap (λ (x : Nodes). node x m)
             (d.is ∙ ap₂ (λ (q : List ℕ) (n : Node). insert (insert t q n) (made_path stem mode d.parent) (new_node bytes mode session)) up (counted_node mode d.parent c)
-            ∙ ap (λ (q : List ℕ). insert (insert t (path_of p) (counted d.parent)) q (new_node bytes mode session)) path)
-            ∙ insert_by_key (insert t (path_of p) (counted d.parent)) (kid d.parent.counter) (new_node bytes mode session) m key i;
+            ∙ ap (λ (q : List ℕ). insert (insert t (path_of p) (with_count d.parent)) q (new_node bytes mode session)) path)
+            ∙ insert_by_key (insert t (path_of p) (with_count d.parent)) (kid d.parent.counter) (new_node bytes mode session) m key i;
       };
     }
 

@@ -22,8 +22,8 @@ use Rattle.dl_tree.proofs.LawLemmas.{get-without_session}
 use Rattle.dl_rules_nodes.specs.Items.{MetaItem, Setup, Connect, Expire, Ask}
 use Rattle.dl_rules_nodes.specs.Metadata.{with_node, first_tree, does, meta_from}
 use Rattle.dl_rules_stream.specs.Requests.{Request, MakeStream, MakeAgain, RemoveStream, MakeMember, ListMembers, LeaveLock, Look, MakeLedger, TakeLedger, StartSegment, GetSegment, GetLedger, MarkLedger, CloseLedger, CompleteSegment, ListCut, LookCut, SetCut, DropSegment}
-use Rattle.dl_law_meta.specs.Keyed.{node, is_apart, OthersStay, lasting, counted, IsNew, IsSet, IsCounted, IsGone}
-use Rattle.dl_law_meta.specs.Effects.{answer_to, left, IsInForm, Leaves, LeavesBy}
+use Rattle.dl_law_meta.specs.Keyed.{node, is_apart, OthersStay, lasting, with_count, IsNew, IsSet, IsCounted, IsGone}
+use Rattle.dl_law_meta.specs.Effects.{answer_to, tree_after, IsInForm, Leaves, LeavesBy}
 use Rattle.dl_law_meta.specs.Histories.{tree_of, node_after, AreRequests}
 use Rattle.dl_law_meta.specs.Laws.{ConfigurationMakes, IsMemberKey, MayBeSet, Counts, counter_in, WasSet, HasNextNumber, MayBeMade, MayGo, Moves, stays, is_made, joins, is_set, is_counted, goes, MovesAt, EachItemMoves, MembersAloneHaveOwners}
 use Rattle.dl_law_meta.proofs.Keyed.{key_is}
@@ -109,8 +109,8 @@ answer_moves t u session r (answer.One y) f x m h = leaves_moves t u session r (
 answer_moves t u session r (answer.Many ys) f x m h = leaves_moves t u session r (answer.Many ys) f x m h
 answer_moves t u session r (answer.Failed place why) f x m h = same_moves t u m (ap (λ (v : Nodes). node v m) x)
 
-request_moves : (t : Nodes) (session : ℕ) (r : Request) → IsInForm r → (m : Key) → IsKey m → MovesAt t (left t session r) m
-request_moves t session r f m h = answer_moves t (left t session r) session r (answer_to t session r) f (each_leaves t session r f) m h
+request_moves : (t : Nodes) (session : ℕ) (r : Request) → IsInForm r → (m : Key) → IsKey m → MovesAt t (tree_after t session r) m
+request_moves t session r f m h = answer_moves t (tree_after t session r) session r (answer_to t session r) f (each_leaves t session r f) m h
 
 -- ---- the configuration
 
@@ -210,7 +210,7 @@ owner_kept t u k _ _ (stays o) session old m e f = old m e f
 owner_kept t u k _ _ (is_made bytes w) session old m e f = absurd (none-some session (ap (λ (n : Node). n.owner) (same_Some (lasting bytes) m e) ∙ f))
 owner_kept t u k _ _ (joins j w) session old m e f = w
 owner_kept t u k _ _ (is_set n bytes w) session old m e f = old n refl (ap (λ (x : Node). x.owner) (same_Some (set_node bytes n) m e) ∙ f)
-owner_kept t u k _ _ (is_counted n w) session old m e f = old n refl (ap (λ (x : Node). x.owner) (same_Some (counted n) m e) ∙ f)
+owner_kept t u k _ _ (is_counted n w) session old m e f = old n refl (ap (λ (x : Node). x.owner) (same_Some (with_count n) m e) ∙ f)
 owner_kept t u k _ _ (goes n w) session old m e f = absurd (none-some m e)
 
 pub owners_are : (items : List MetaItem) → AreRequests items → OwnersAreMembers (tree_of items)

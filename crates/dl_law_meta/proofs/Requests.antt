@@ -10,7 +10,7 @@ use Rattle.dl_tree.specs.Trees.{Nodes, Outcome, Run, outcome_of, run_of, after_r
 use Rattle.dl_formats.specs.declared.ledger.LedgerState.TheVariants.{Recovering, Closed}
 use Rattle.dl_formats.specs.Keys.{MaxSeq, Cut, Alloc, Ledger, Locks, Segs}
 use Rattle.dl_rules_stream.specs.Requests.{Request, MakeStream, MakeAgain, RemoveStream, MakeMember, ListMembers, LeaveLock, Look, MakeLedger, TakeLedger, StartSegment, GetSegment, GetLedger, MarkLedger, CloseLedger, CompleteSegment, ListCut, LookCut, SetCut, DropSegment, ledger_node, segment_key, op_of}
-use Rattle.dl_law_meta.specs.Effects.{ChildrenOf, ContentOf, answer_to, left, Leaves, LeavesBy}
+use Rattle.dl_law_meta.specs.Effects.{ChildrenOf, ContentOf, answer_to, tree_after, Leaves, LeavesBy}
 use Rattle.dl_law_meta.specs.Laws.{EachRequestLeaves}
 use Rattle.dl_law_meta.proofs.Told.{several_read, single_read}
 use Rattle.dl_law_meta.proofs.Streams.{stream_made, stream_made_again, stream_removed, member_made, member_left, cut_set}
@@ -19,7 +19,7 @@ use Rattle.dl_law_meta.proofs.Segments.{segment_started, segment_completed, segm
 
 several_leave : (t : Nodes) (session : ℕ) (r : Request) (ops : List OneOp) → op_of r ≡ op.Multi ops
     → ((x : List OneAnswer × Nodes) → run_of t session 0 ops ≡ Ok x → Leaves t session r (answer.Many x.0) x.1)
-    → LeavesBy t session r (answer_to t session r) (left t session r)
+    → LeavesBy t session r (answer_to t session r) (tree_after t session r)
 unfolding after_request
 several_leave t session r ops is each =
     subst (λ (o : MetaOp). LeavesBy t session r (after_request t session o).0 (after_request t session o).1) (sym is) (go (run_of t session 0 ops) refl)
@@ -30,7 +30,7 @@ several_leave t session r ops is each =
 
 one_leaves : (t : Nodes) (session : ℕ) (r : Request) (x : OneOp) → op_of r ≡ op.One x
     → ((a : OneAnswer × Nodes) → outcome_of t session x ≡ Ok a → Leaves t session r (answer.One a.0) a.1)
-    → LeavesBy t session r (answer_to t session r) (left t session r)
+    → LeavesBy t session r (answer_to t session r) (tree_after t session r)
 unfolding after_request
 one_leaves t session r x is each =
     subst (λ (o : MetaOp). LeavesBy t session r (after_request t session o).0 (after_request t session o).1) (sym is) (go (outcome_of t session x) refl)

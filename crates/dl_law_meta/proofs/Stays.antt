@@ -9,7 +9,7 @@ use Rattle.dl_tree.specs.Laws.{set_node}
 use Rattle.dl_tree.specs.Trees.{Nodes}
 use Rattle.dl_rules_nodes.specs.Items.{MetaItem}
 use Rattle.dl_rules_nodes.specs.Metadata.{meta_from}
-use Rattle.dl_law_meta.specs.Keyed.{node, counted}
+use Rattle.dl_law_meta.specs.Keyed.{node, with_count}
 use Rattle.dl_law_meta.specs.Histories.{tree_of, node_after, IsAny, AreRequests, Asker, asker_of, is_new, maker}
 use Rattle.dl_law_meta.specs.Laws.{counter_in, WasSet, MayGo, Moves, stays, is_made, joins, is_set, is_counted, goes, IsLater, IsThereLater, IsGoneOrLater, IsLasting, LastingNodesStay, ledgers_made, EachLedgerIsMadeOnce, MakersStay, LooksStayWhileMaxseqStands}
 use Rattle.dl_law_meta.proofs.Moves.{root_none, each_moves}
@@ -31,7 +31,7 @@ later_set n m bytes h = record {
     higher : m.version + 1 ≡ n.version → ⊥
     higher e = omega (arith, h.version, e)
 
-later_counted : (n m : Node) → IsLater n m → IsLater n (counted m)
+later_counted : (n m : Node) → IsLater n m → IsLater n (with_count m)
 later_counted n m h = record { version = h.version; counter = omega (arith, h.counter); owner = h.owner; bytes = h.bytes }
 
 never_goes : (t u : Nodes) (k : Key) → IsLasting k → MayGo t u k → ⊥

@@ -12,7 +12,7 @@ use Rattle.dl_rules_nodes.specs.Items.{MetaItem, Setup, Connect, Expire, Ask}
 use Rattle.dl_rules_nodes.specs.Metadata.{does, meta_from}
 use Rattle.dl_rules_stream.specs.Requests.{Request}
 use Rattle.dl_law_meta.specs.Keyed.{node}
-use Rattle.dl_law_meta.specs.Effects.{answer_to, left, IsInForm, Leaves, LeavesBy}
+use Rattle.dl_law_meta.specs.Effects.{answer_to, tree_after, IsInForm, Leaves, LeavesBy}
 use Rattle.dl_law_meta.specs.Histories.{tree_of, IsItemBehind, AreItemsBy, IsAny, AreRequests}
 use Rattle.dl_law_meta.specs.Laws.{IsFirstTree, IsMemberKey}
 use Rattle.dl_law_meta.proofs.Requests.{each_leaves}
@@ -53,8 +53,8 @@ answer_step P t u session r (answer.One y) f p x = asks session r (answer.One y)
 answer_step P t u session r (answer.Many ys) f p x = asks session r (answer.Many ys) f p x
 answer_step P t u session r (answer.Failed place why) f p x = rests (λ k g m. ap (λ (v : Nodes). node v k) x)
 
-request_step : (P : Nodes → Request → Type 0) (t : Nodes) (session : ℕ) (r : Request) → IsInForm r → P t r → Step P t (left t session r)
-request_step P t session r f p = answer_step P t (left t session r) session r (answer_to t session r) f p (each_leaves t session r f)
+request_step : (P : Nodes → Request → Type 0) (t : Nodes) (session : ℕ) (r : Request) → IsInForm r → P t r → Step P t (tree_after t session r)
+request_step P t session r f p = answer_step P t (tree_after t session r) session r (answer_to t session r) f p (each_leaves t session r f)
 
 -- a session's end leaves what is no member
 unowned_by : (session : ℕ) (n : Node) (owner : Option ℕ) → ((j : ℕ) → owner ≡ Some j → ⊥) → cond (not (is_owner session owner)) (Some n) None ≡ Some n

@@ -24,8 +24,8 @@ abbrev pub answer_to : Nodes → ℕ → Request → MetaAnswer
 answer_to t session r = (after_request t session (op_of r)).0
 
 -- the tree that a request of a session leaves
-abbrev pub left : Nodes → ℕ → Request → Nodes
-left t session r = (after_request t session (op_of r)).1
+abbrev pub tree_after : Nodes → ℕ → Request → Nodes
+tree_after t session r = (after_request t session (op_of r)).1
 
 -- ---- requests in form
 

@@ -29,8 +29,8 @@ abbrev pub ephemeral : ℕ → Node
 ephemeral session = record { bytes = []; version = 0; owner = Some session; counter = 0 }
 
 -- a node below which one more name was counted
-abbrev pub counted : Node → Node
-counted n = record n { counter = n.counter + 1 }
+abbrev pub with_count : Node → Node
+with_count n = record n { counter = n.counter + 1 }
 
 -- the node has the version that is named, where one is named
 abbrev pub HasVersion : Option ℕ → Node → Type 0
@@ -68,7 +68,7 @@ pub record IsCounted (t u : Nodes) (k : Key) (number : ℕ) : Type 0 where
   pub lasts : old.owner ≡ None
   pub given : old.counter ≡ number
   pub room : HasTenDigits number
-  pub now : node u k ≡ Some (counted old)
+  pub now : node u k ≡ Some (with_count old)
 
 -- A node of the version that is named is gone.
 pub record IsGone (t u : Nodes) (k : Key) (named : Option ℕ) : Type 0 where

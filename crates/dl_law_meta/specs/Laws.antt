@@ -13,8 +13,8 @@ use Rattle.dl_tree.specs.Trees.{Nodes}
 use Rattle.dl_rules_nodes.specs.Items.{MetaItem}
 use Rattle.dl_rules_nodes.specs.Metadata.{first_tree}
 use Rattle.dl_rules_stream.specs.Requests.{Request}
-use Rattle.dl_law_meta.specs.Keyed.{node, lasting, ephemeral, counted}
-use Rattle.dl_law_meta.specs.Effects.{answer_to, left, IsInForm, LeavesBy}
+use Rattle.dl_law_meta.specs.Keyed.{node, lasting, ephemeral, with_count}
+use Rattle.dl_law_meta.specs.Effects.{answer_to, tree_after, IsInForm, LeavesBy}
 use Rattle.dl_law_meta.specs.Histories.{tree_of, node_after, WhileNamed, NamesLedger, AreRequests, AreSupposed, AreAdmitted, state_in, Asker, maker, starter, times_run}
 
 -- ---- one request
@@ -23,7 +23,7 @@ use Rattle.dl_law_meta.specs.Histories.{tree_of, node_after, WhileNamed, NamesLe
 abbrev pub EachRequestLeaves : Type 0
 EachRequestLeaves =
     (t : Nodes) (session : ℕ) (r : Request) → IsInForm r
-    → LeavesBy t session r (answer_to t session r) (left t session r)
+    → LeavesBy t session r (answer_to t session r) (tree_after t session r)
 
 -- The tree with which a configuration begins: the configuration, and the nodes of all streams and of all ledgers, with none below.
 pub record IsFirstTree (c : conf.Conf) (t : Nodes) : Type 0 where
@@ -142,7 +142,7 @@ pub data Moves (t u : Nodes) (k : Key) : Option Node → Option Node → Type 0 
   is_made : (bytes : List ℕ) → MayBeMade t u k → Moves t u k None (Some (lasting bytes))
   joins : (session : ℕ) → IsMemberKey k → Moves t u k None (Some (ephemeral session))
   is_set : (n : Node) (bytes : List ℕ) → MayBeSet k → Moves t u k (Some n) (Some (set_node bytes n))
-  is_counted : (n : Node) → Counts k → Moves t u k (Some n) (Some (counted n))
+  is_counted : (n : Node) → Counts k → Moves t u k (Some n) (Some (with_count n))
   goes : (n : Node) → MayGo t u k → Moves t u k (Some n) None
 
 -- the node at a key moves so

@@ -3,7 +3,7 @@
 ghost use Rattle.std.specs.Prelude.{◌≡◌, ℕ, List, IfOk};
 ghost use Rattle.dl_types.specs.declared.meta_answer.MetaAnswer.TheVariants as answer;
 ghost use Rattle.dl_msg.specs.declared.turn.Turn.TheVariants as turn;
-ghost use Rattle.dl_rules_stream.specs.Locks.{LockStage, MakingMember, ListingMembers, LeavingLock, settled, lock_answers};
+ghost use Rattle.dl_rules_stream.specs.Locks.{LockStage, MakingMember, ListingMembers, LeavingLock, lock_or_leave, lock_answers};
 ghost use Rattle.dl_requests.specs.declared.moves.Move.TheVariants.{Goes};
 ghost use Rattle.dl_requests.specs.Turns.{answer_of, move_of};
 ghost use Rattle.dl_lock.specs.declared.stage.Stage.TheVariants.{Over};
@@ -82,7 +82,7 @@ fn after_making(alloc: Global, stream: &Name, answer: &MetaAnswer) -> Result<Loc
 /// It has the lock, or another member has a lesser number and it leaves.
 fn settle(member: &Path, least: u64) -> Result<LockMove, NoMemory>
     ensures { IfOk result (λ move. (stage : LockStage) → move_of lock_stage_of stage move
-        ≡ answer_of (settled member.now least)) }
+        ≡ answer_of (lock_or_leave member.now least)) }
 {
     let member = member.share()?;
     if least < number_behind(member.as_slice()) {

@@ -9,7 +9,7 @@ use Rattle.dl_schedule.specs.declared.step.Step.TheVariants as step
 use Rattle.dl_transcript.specs.declared.event.Event.TheVariants as event
 use Rattle.dl_machine.specs.States.{State}
 use Rattle.dl_machine.specs.Atoms.{Atom, SetUp, Deliver, Commit, Rise, Shows}
-use Rattle.dl_machine.specs.Fates.{Luck, Well, Fails, Falls, Unmade, fated, with_luck, well, looks_at, may_look, may_have}
+use Rattle.dl_machine.specs.Fates.{Luck, Well, Fails, Falls, Unmade, steps_by_luck, with_luck, well, looks_at, may_look, may_have}
 use Rattle.dl_machine.specs.Limits.{turn_limit}
 use Rattle.dl_machine.specs.Lines.{is_idle, plain_atoms}
 use Rattle.dl_machine.specs.Runs.{after, turn, goes_on, settles, are_fit, fit_on, settles_fit, busy_atoms, line_atoms, busy_fit, is_fit}
@@ -19,7 +19,7 @@ use Rattle.dl_machine.specs.Laws.{turns_on, turns, none_failed, FailuresAside}
 
 -- atomic steps are as they are
 well_steps : (i : ℕ) (xs : List Atom) → with_luck well i xs ≡ xs
-unfolding with_luck fated
+unfolding with_luck steps_by_luck
 well_steps i [] = refl
 well_steps i (a ∷ more) = ap (a ∷◌) (well_steps (suc i) more)
 
@@ -59,8 +59,8 @@ no_look s None = refl
 no_look s (Some l) = no_look_at s l l.to
 
 -- a luck that a step may have leaves it as it is
-fit_fate : (s : State) (luck : Luck) (a : Atom) → may_have none_failed s luck a ≡ true → fated luck a ≡ a ∷ []
-unfolding may_have fated
+fit_fate : (s : State) (luck : Luck) (a : Atom) → may_have none_failed s luck a ≡ true → steps_by_luck luck a ≡ a ∷ []
+unfolding may_have steps_by_luck
 fit_fate s (Fails kept) (Commit b) e = absurd cc
 fit_fate s (Fails kept) (Deliver place) e = absurd (let w = no_look s (slice_get s.letters place) in cc)
 fit_fate s (Fails kept) (Rise b) e = absurd cc
@@ -77,7 +77,7 @@ fit_steps luck i s (a ∷ more) e =
     let here = both_left _ _ e in
     let later = both_right _ _ e in
     ap (λ (now : List Atom). now ++ with_luck luck (suc i) more) (fit_fate s (luck i) a here)
-    ∙ ap (a ∷◌) (fit_steps luck (suc i) (after s (fated (luck i) a)) more later)
+    ∙ ap (a ∷◌) (fit_steps luck (suc i) (after s (steps_by_luck (luck i) a)) more later)
 
 -- a turn with lucks that its steps may have
 fit_turn : (luck : ℕ → Luck) (n i : ℕ) (s : State) (xs : List Atom)
@@ -118,7 +118,7 @@ fit_line luck s line x e = fit_unless luck s line x (is_idle s x) e
 well_fit : (failed : ℕ → Bool) (i : ℕ) (s : State) (xs : List Atom) → are_fit failed well i s xs ≡ true
 unfolding are_fit may_have
 well_fit failed i s [] = refl
-well_fit failed i s (a ∷ more) = well_fit failed (suc i) (after s (fated Well a)) more
+well_fit failed i s (a ∷ more) = well_fit failed (suc i) (after s (steps_by_luck Well a)) more
 
 well_turn_fit : (failed : ℕ → Bool) (n i : ℕ) (s : State) (xs : List Atom) → ((j : ℕ) (t : State) → settles_fit failed well n j t ≡ true)
     → fit_on failed well s xs i (settles_fit failed well n) ≡ true

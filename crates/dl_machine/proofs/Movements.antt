@@ -13,14 +13,14 @@ use Rattle.dl_msg.specs.declared.msg.Msg.{Msg}
 use Rattle.dl_session.specs.declared.admit.Admit.{Admit}
 use Rattle.dl_session.specs.declared.admit.Admit.TheVariants as admit
 use Rattle.dl_formats.specs.declared.conf.Conf.{Conf}
-use Rattle.dl_rules_nodes.specs.Bookies.{Bookie, Taken, Looks, Answers, Queues, durable, queued, taken, answer_now, committed, stopped}
+use Rattle.dl_rules_nodes.specs.Bookies.{Bookie, Taken, Looks, Answers, Queues, durable, queued_items, table_row, answer_now, after_commit, after_stop}
 use Rattle.dl_rules_nodes.specs.Bookies.{after as taken_bookie}
 use Rattle.dl_rules_nodes.specs.Items.{MetaItem, Ask}
 use Rattle.dl_rules_nodes.specs.Metadata.{answer_of, reply_of}
 use Rattle.dl_rules_nodes.proofs.BookieLaws.{durable_items_only_grow}
 use Rattle.dl_rules_client.specs.Acts.{Input, Came, Acts, SentEntry, Confirmation}
 use Rattle.dl_rules_client.specs.Clients.{acts_of}
-use Rattle.dl_machine.specs.States.{State, Node, Mode, Up, Down, Lost, Joined, Outcome, put, with_node, with_client, with_letters, with_meta_item, is_up, args_of, quietly}
+use Rattle.dl_machine.specs.States.{State, Node, Mode, Up, Down, Lost, Joined, Outcome, with_value, with_node, with_client, with_letters, with_meta_item, is_up, args_of, quietly}
 use Rattle.dl_machine.specs.Growth.{Closing, with_sent, confirms, closes, closing_with, shows_op, shows_ops, shows_run, is_done, ops_of}
 use Rattle.dl_machine.specs.Atoms.{MetaRequest, meta_in, request_in, admit_in, acts_on, client_takes, with_answer, takes_row, runs, admits, reply_msg, meta_takes, takes_letter, commits, stopped_node, killed_node, risen_node, swapped_node, loosened_node, lost_node, faints_at, without_meta, stops_run}
 use Rattle.dl_machine.specs.Laws.{Extends, OneItemMore, IsSettled, UpIsSettled}
@@ -39,7 +39,7 @@ cond_both P true x y h k = h
 cond_both P false x y h k = k
 
 -- a function with another value at one number keeps what the value there and the others keep
-pub put_each : {A : Type 0} (f : ℕ → A) (i : ℕ) (x : A) (P : ℕ → A → Type 0) → P i x → ((j : ℕ) → P j (f j)) → (j : ℕ) → P j (put f i x j)
+pub put_each : {A : Type 0} (f : ℕ → A) (i : ℕ) (x : A) (P : ℕ → A → Type 0) → P i x → ((j : ℕ) → P j (f j)) → (j : ℕ) → P j (with_value f i x j)
 put_each f i x P here others j = go (j == i) refl
   where
     go : (t : Bool) → (j == i) ≡ t → P j (cond t x (f j))
@@ -63,15 +63,15 @@ node_taken n client session (Answers reply) = node_same n
 node_taken n client session (Queues reply item) = record { grows = λ e. extends_same _; settled = λ h. h }
 
 -- a commit adds to them
-pub node_committed : (n : Node) → NodeKeeps n (record n { bookie = committed n.bookie })
+pub node_committed : (n : Node) → NodeKeeps n (record n { bookie = after_commit n.bookie })
 node_committed n = record {
-  grows = λ e. record { more = queued n.bookie; same = (durable_items_only_grow n.bookie).commit };
+  grows = λ e. record { more = queued_items n.bookie; same = (durable_items_only_grow n.bookie).commit };
   settled = λ h. h;
 }
 
 -- the list of a node that was stopped
-stopped_grows : (k : Bookie) (kept : Bool) → Extends (durable k) (durable (stopped k kept))
-stopped_grows k true = record { more = queued k; same = (durable_items_only_grow k).stop true }
+stopped_grows : (k : Bookie) (kept : Bool) → Extends (durable k) (durable (after_stop k kept))
+stopped_grows k true = record { more = queued_items k; same = (durable_items_only_grow k).stop true }
 stopped_grows k false = extends_same _
 
 pub node_stopped : (n : Node) (kept : Bool) → NodeKeeps n (stopped_node n kept)
@@ -182,7 +182,7 @@ but_run t op a s = cond_both (λ (o : Outcome). ButLedgers s o.state) (is_done a
 acts_move : (s : State) (c : ℕ) (me : Joined) (x : Input) (acts : Acts) → Moves s (acts_on s c me x acts).state
 acts_move s c me x acts =
     let process : Option Joined = Some (record me { view = x ∷ me.view }) in
-    let told : State = record (with_letters (with_client s c process) acts.letters) { calls = put s.calls c (s.calls c + acts.taken) } in
+    let told : State = record (with_letters (with_client s c process) acts.letters) { calls = with_value s.calls c (s.calls c + acts.taken) } in
     let base : Moves s told = record { letters = extends_by _ _; delivered = refl; items = inl refl; nodes = λ b. node_same (s.nodes b) } in
     moves_but s (with_sent told acts.sent) _
     (moves_but s told (with_sent told acts.sent) base (but_sent told acts.sent))
@@ -228,7 +228,7 @@ meta_moves s l (Some r) =
 
 -- a letter is taken
 pub taken_moves : (s : State) (l : Letter) (to from : Address) → Moves s (takes_letter s l to from).state
-taken_moves s l (AtBookie b) (Client c) = row_moves s l b c (taken (s.nodes b).bookie l.msg)
+taken_moves s l (AtBookie b) (Client c) = row_moves s l b c (table_row (s.nodes b).bookie l.msg)
 taken_moves s l (AtBookie b) (AtBookie d) = moves_same s
 taken_moves s l (AtBookie b) AtMeta = moves_same s
 taken_moves s l AtMeta from = meta_moves s l (request_in l.msg)

@@ -3,7 +3,7 @@ use Rattle.std.proofs.Common.{◌≡◌, ℕ, suc, List, [], ◌∷◌, ◌++◌
 use Rattle.std.proofs.lemmas.List.{append_assoc, map-append}
 use Rattle.dl_schedule.specs.declared.step.Step.{Step}
 use Rattle.dl_transcript.specs.declared.event.Event.{Event}
-use Rattle.dl_transcript.specs.Lines.{numbered}
+use Rattle.dl_transcript.specs.Lines.{at_line}
 use Rattle.dl_machine.specs.States.{State}
 use Rattle.dl_machine.specs.Atoms.{Atom, atom}
 use Rattle.dl_machine.specs.Fates.{well}
@@ -33,7 +33,7 @@ run_ends s line (x ∷ xs) =
     ∙ sym (after-append s (line_atoms well s line x) (run_atoms (after s (line_atoms well s line x)) (suc line) xs))
 
 -- the events of a line, without its number
-without_number : (line : ℕ) (es : List Event) → events_in (numbered line es) ≡ es
+without_number : (line : ℕ) (es : List Event) → events_in (at_line line es) ≡ es
 without_number line [] = refl
 without_number line (e ∷ es) = ap (e ∷◌) (without_number line es)
 
@@ -43,7 +43,7 @@ unfolding run run_atoms step_with events
 run_shows s line [] = refl
 run_shows s line (x ∷ xs) =
     let now : List Atom = line_atoms well s line x in
-    map-append (λ (y : ℕ × Event). y.1) (numbered line (events s now)) (run (after s now) (suc line) xs).transcript
+    map-append (λ (y : ℕ × Event). y.1) (at_line line (events s now)) (run (after s now) (suc line) xs).transcript
     ∙ ap (λ (es : List Event). es ++ events_in (run (after s now) (suc line) xs).transcript) (without_number line (events s now))
     ∙ ap (λ (es : List Event). events s now ++ es) (run_shows (after s now) (suc line) xs)
     ∙ sym (events-append s now (run_atoms (after s now) (suc line) xs))

@@ -8,12 +8,12 @@ use Rattle.dl_session.specs.declared.admit.Admit.{Admit}
 use Rattle.dl_session.specs.declared.admit.Admit.TheVariants as admit
 use Rattle.dl_session.specs.Sessions.{after_connect, after_expiry, after_run}
 use Rattle.dl_formats.specs.declared.conf.Conf.{Conf}
-use Rattle.dl_rules_nodes.specs.Bookies.{taken, answer_now}
+use Rattle.dl_rules_nodes.specs.Bookies.{table_row, answer_now}
 use Rattle.dl_rules_nodes.specs.Items.{MetaItem, Setup, Connect, Expire, Ask}
 use Rattle.dl_rules_nodes.specs.Metadata.{Meta, meta_from, meta_of, does, answer_of, reply_of}
 use Rattle.dl_rules_client.specs.Acts.{Input, Line, Came, Acts}
 use Rattle.dl_rules_client.specs.Clients.{acts_of}
-use Rattle.dl_machine.specs.States.{State, Outcome, Joined, put, with_client, with_letters, with_meta_item, marks, quietly, can_take, args_of}
+use Rattle.dl_machine.specs.States.{State, Outcome, Joined, with_value, with_client, with_letters, with_meta_item, marks, quietly, can_take, args_of}
 use Rattle.dl_machine.specs.Growth.{with_sent, confirms}
 use Rattle.dl_machine.specs.Atoms.{Atom, SetUp, Join, Crash, End, Order, Deliver, Commit, Stop, StopMeta, Faint, Kill, KillMeta, Rise, RiseMeta, Loosen, Lose, Shows, MetaRequest, meta_in, request_in, admit_in, new_process, joins, joins_in, acts_on, client_takes, with_answer, runs, admits, reply_msg, meta_takes, takes_letter, delivers, faints_at, faints, stops_run, stops_request, stops_msg, stops_meta, atom}
 use Rattle.dl_machine.specs.Laws.{OneItemMore, IsGiven, JoinedAreGiven, SessionsAreGiven}
@@ -48,10 +48,10 @@ but_clients s t e = ap (λ (v : State). v.clients) e
 acts_was : (s : State) (c : ℕ) (me : Joined) (x : Input) (acts : Acts) → s.clients c ≡ Some me → EachWas s (acts_on s c me x acts).state.clients
 acts_was s c me x acts given =
     let process : Option Joined = Some (record me { view = x ∷ me.view }) in
-    let told : State = record (with_letters (with_client s c process) acts.letters) { calls = put s.calls c (s.calls c + acts.taken) } in
+    let told : State = record (with_letters (with_client s c process) acts.letters) { calls = with_value s.calls c (s.calls c + acts.taken) } in
     let sent : State = with_sent told acts.sent in
     let t : State = (confirms sent acts.confirmed).state in
-    let same : t.clients ≡ put s.clients c process = but_clients told t (but_then told sent t (but_sent told acts.sent) (but_confirms sent acts.confirmed)) in
+    let same : t.clients ≡ with_value s.clients c process = but_clients told t (but_then told sent t (but_sent told acts.sent) (but_confirms sent acts.confirmed)) in
     subst (λ (f : ℕ → Option Joined). EachWas s f) (sym same)
     (put_each s.clients c process (λ j p. (q : Joined) → p ≡ Some q → Was (s.clients j) q.session)
     (λ q w. record { process = me; there = given; same = ap session_of w })
@@ -84,7 +84,7 @@ meta_same s l (Some r) =
     answer_same (admits s r (admit_in s r)).state l (reply_msg r (reply_of (meta_in s) r.session r.number r.op)) ∙ admits_same s r (admit_in s r)
 
 letter_was : (s : State) (l : Letter) (to from : Address) → EachWas s (takes_letter s l to from).state.clients
-letter_was s l (AtBookie b) (Client c) = each_same s _ (answer_same _ l (answer_now (s.nodes b).bookie l.msg (taken (s.nodes b).bookie l.msg)))
+letter_was s l (AtBookie b) (Client c) = each_same s _ (answer_same _ l (answer_now (s.nodes b).bookie l.msg (table_row (s.nodes b).bookie l.msg)))
 letter_was s l (AtBookie b) (AtBookie d) = each_same s _ refl
 letter_was s l (AtBookie b) AtMeta = each_same s _ refl
 letter_was s l AtMeta from = each_same s _ (meta_same s l (request_in l.msg))

@@ -6,14 +6,14 @@ use Rattle.std.proofs.lemmas.List.{append-nil}
 use Rattle.std.proofs.lemmas.Option.{slice_get_within}
 use Rattle.dl_msg.specs.declared.letter.Letter.{Letter}
 use Rattle.dl_formats.specs.declared.conf.Conf.{Conf}
-use Rattle.dl_rules_nodes.specs.Bookies.{committed, stopped, emptied}
-use Rattle.dl_machine.specs.States.{State, Node, Down, put, with_node, marks, is_up, bookies_of, can_take, quietly}
+use Rattle.dl_rules_nodes.specs.Bookies.{after_commit, after_stop, without_queue}
+use Rattle.dl_machine.specs.States.{State, Node, Down, with_value, with_node, marks, is_up, bookies_of, can_take, quietly}
 use Rattle.dl_machine.specs.Atoms.{Atom, Deliver, Commit, takes_letter, delivers, commits, stopped_node, killed_node, faints_at, faints, atom}
-use Rattle.dl_machine.specs.Fates.{Luck, Well, Fails, Falls, Unmade, fated, with_luck}
+use Rattle.dl_machine.specs.Fates.{Luck, Well, Fails, Falls, Unmade, steps_by_luck, with_luck}
 use Rattle.dl_machine.specs.Limits.{most_messages, turn_limit}
 use Rattle.dl_machine.specs.Lines.{has_queue}
 use Rattle.dl_machine.specs.Runs.{after, next_letter, nodes_due, turn_by, turn, goes_on, settles}
-use Rattle.dl_machine.specs.Laws.{settled, SettlingEndsQuiet}
+use Rattle.dl_machine.specs.Laws.{state_after_settling, SettlingEndsQuiet}
 use Rattle.dl_machine.proofs.RunLaws.{after-append}
 use Rattle.dl_machine.proofs.Movements.{put_each, Moves, taken_moves, faints_moves}
 use Rattle.dl_machine.proofs.StayLaws.{letters_grow}
@@ -40,28 +40,28 @@ unmarked_at_most f (suc n) = go (f n) (unmarked_at_most f n)
     go false h = omega (arith, h)
 
 -- a mark at or above them changes nothing
-unmarked_above : (f : ℕ → Bool) (place n : ℕ) → n ≤ place → unmarked (put f place true) n ≡ unmarked f n
+unmarked_above : (f : ℕ → Bool) (place n : ℕ) → n ≤ place → unmarked (with_value f place true) n ≡ unmarked f n
 unfolding unmarked
 unmarked_above f place zero h = refl
 unmarked_above f place (suc n) h = go (n == place) (ne_eqb n place (λ e. omega (arith, e, h))) (unmarked_above f place n (omega (arith, h)))
   where
-    go : (t : Bool) → t ≡ false → unmarked (put f place true) n ≡ unmarked f n
-        → one_unless (cond t true (f n)) + unmarked (put f place true) n ≡ one_unless (f n) + unmarked f n
+    go : (t : Bool) → t ≡ false → unmarked (with_value f place true) n ≡ unmarked f n
+        → one_unless (cond t true (f n)) + unmarked (with_value f place true) n ≡ one_unless (f n) + unmarked f n
     go true w e = absurd cc
     go false w e = ap (λ (m : ℕ). one_unless (f n) + m) e
 
 -- a mark at a place that had none is one less
-unmarked_marked : (f : ℕ → Bool) (place n : ℕ) → place < n → f place ≡ false → suc (unmarked (put f place true) n) ≤ unmarked f n
+unmarked_marked : (f : ℕ → Bool) (place n : ℕ) → place < n → f place ≡ false → suc (unmarked (with_value f place true) n) ≤ unmarked f n
 unfolding unmarked
 unmarked_marked f place zero below open_there = absurd (omega (arith, below))
 unmarked_marked f place (suc n) below open_there = go (cases_eq n place) (unmarked_marked f place n)
   where
-    go : (n ≡ place) ⊎ (n ≡ place → ⊥) → (place < n → f place ≡ false → suc (unmarked (put f place true) n) ≤ unmarked f n)
-        → suc (one_unless (cond (n == place) true (f n)) + unmarked (put f place true) n) ≤ one_unless (f n) + unmarked f n
+    go : (n ≡ place) ⊎ (n ≡ place → ⊥) → (place < n → f place ≡ false → suc (unmarked (with_value f place true) n) ≤ unmarked f n)
+        → suc (one_unless (cond (n == place) true (f n)) + unmarked (with_value f place true) n) ≤ one_unless (f n) + unmarked f n
     go (inl e) ih =
         let here : one_unless (cond (n == place) true (f n)) ≡ 0 = ap (λ (t : Bool). one_unless (cond t true (f n))) (eq-eqb n place e) in
         let was : one_unless (f n) ≡ 1 = ap (λ (k : ℕ). one_unless (f k)) e ∙ ap one_unless open_there in
-        let rest : unmarked (put f place true) n ≡ unmarked f n = unmarked_above f place n (omega (arith, e)) in
+        let rest : unmarked (with_value f place true) n ≡ unmarked f n = unmarked_above f place n (omega (arith, e)) in
         omega (arith, here, was, rest)
     go (inr d) ih =
         let here : one_unless (cond (n == place) true (f n)) ≡ one_unless (f n) = ap (λ (t : Bool). one_unless (cond t true (f n))) (ne_eqb n place d) in
@@ -130,17 +130,17 @@ faint_moves s place l found e takes =
 
 -- whatever the devices make of it, a letter that is delivered is marked
 fated_delivery : (s : State) (luck : Luck) (place : ℕ) (l : Letter) → slice_get s.letters place ≡ Some l → can_take s l l.to ≡ true
-    → Moves (marks s place) (after s (fated luck (Deliver place)))
-unfolding after fated atom
+    → Moves (marks s place) (after s (steps_by_luck luck (Deliver place)))
+unfolding after steps_by_luck atom
 fated_delivery s Well place l e takes = deliver_moves s place l _ e takes
 fated_delivery s (Fails kept) place l e takes = faint_moves s place l _ e takes
 fated_delivery s Falls place l e takes = deliver_moves s place l _ e takes
 fated_delivery s (Unmade bookies) place l e takes = deliver_moves s place l _ e takes
 
 -- one step with its luck
-one_fated : (luck : ℕ → Luck) (i : ℕ) (s : State) (a : Atom) → after s (with_luck luck i (a ∷ [])) ≡ after s (fated (luck i) a)
+one_fated : (luck : ℕ → Luck) (i : ℕ) (s : State) (a : Atom) → after s (with_luck luck i (a ∷ [])) ≡ after s (steps_by_luck (luck i) a)
 unfolding with_luck
-one_fated luck i s a = ap (after s) (append-nil (fated (luck i) a))
+one_fated luck i s a = ap (after s) (append-nil (steps_by_luck (luck i) a))
 
 -- ---- commits
 
@@ -157,10 +157,10 @@ empties_then : (s t u : State) → Empties s t → Empties t u → Empties s u
 empties_then s t u g h = record { conf = h.conf ∙ g.conf; same_marks = h.same_marks ∙ g.same_marks; idle = λ j e. h.idle j (g.idle j e) }
 
 -- a storage node whose queue is gone
-put_idle : (nodes : ℕ → Node) (b : ℕ) (n : Node) → has_queue n ≡ false → (j : ℕ) → has_queue (nodes j) ≡ false → has_queue (put nodes b n j) ≡ false
+put_idle : (nodes : ℕ → Node) (b : ℕ) (n : Node) → has_queue n ≡ false → (j : ℕ) → has_queue (nodes j) ≡ false → has_queue (with_value nodes b n j) ≡ false
 put_idle nodes b n e = put_each nodes b n (λ j m. has_queue (nodes j) ≡ false → has_queue m ≡ false) (λ h. e) (λ j h. h)
 
-put_here : (nodes : ℕ → Node) (b : ℕ) (n : Node) → has_queue n ≡ false → has_queue (put nodes b n b) ≡ false
+put_here : (nodes : ℕ → Node) (b : ℕ) (n : Node) → has_queue n ≡ false → has_queue (with_value nodes b n b) ≡ false
 put_here nodes b n e = subst (λ (t : Bool). has_queue (cond t n (nodes b)) ≡ false) (sym (eq-eqb b b refl)) e
 
 -- One storage node's queue is gone, and none is fuller.
@@ -172,22 +172,22 @@ no_queue_after : (t : Bool) → (t && false) ≡ false
 no_queue_after true = refl
 no_queue_after false = refl
 
-committed_idle : (n : Node) → has_queue (record n { bookie = committed n.bookie }) ≡ false
-unfolding committed
+committed_idle : (n : Node) → has_queue (record n { bookie = after_commit n.bookie }) ≡ false
+unfolding after_commit
 committed_idle n = no_queue_after (is_up n.mode)
 
 stopped_idle : (n : Node) (kept : Bool) → has_queue (stopped_node n kept) ≡ false
 stopped_idle n kept = go (is_up n.mode) refl
   where
     go : (t : Bool) → is_up n.mode ≡ t
-        → has_queue (cond t (record { bookie = stopped n.bookie kept; mode = Down; other = Some (stopped n.bookie (not kept)) }) n) ≡ false
+        → has_queue (cond t (record { bookie = after_stop n.bookie kept; mode = Down; other = Some (after_stop n.bookie (not kept)) }) n) ≡ false
     go true e = refl
     go false e = ap (λ (u : Bool). u && not (length n.bookie.queue == 0)) e
 
 killed_idle : (n : Node) → has_queue (killed_node n) ≡ false
 killed_idle n = go (is_up n.mode) refl
   where
-    go : (t : Bool) → is_up n.mode ≡ t → has_queue (cond t (record n { bookie = emptied n.bookie; mode = Down }) n) ≡ false
+    go : (t : Bool) → is_up n.mode ≡ t → has_queue (cond t (record n { bookie = without_queue n.bookie; mode = Down }) n) ≡ false
     go true e = refl
     go false e = ap (λ (u : Bool). u && not (length n.bookie.queue == 0)) e
 
@@ -209,8 +209,8 @@ commit_and_kill s b =
     record { all = empties_then s (commits s b) _ (commit_empties s b).all next.all; here = next.here }
 
 -- whatever the devices make of a commit, its storage node has no queue then
-fated_commit : (s : State) (luck : Luck) (b : ℕ) → EmptiesAt b s (after s (fated luck (Commit b)))
-unfolding after fated atom
+fated_commit : (s : State) (luck : Luck) (b : ℕ) → EmptiesAt b s (after s (steps_by_luck luck (Commit b)))
+unfolding after steps_by_luck atom
 fated_commit s Well b = commit_empties s b
 fated_commit s (Fails kept) b = node_empties s b _ (stopped_idle (s.nodes b) kept)
 fated_commit s Falls b = commit_and_kill s b
@@ -225,11 +225,11 @@ round_empties : (luck : ℕ → Luck) (i : ℕ) (s : State) (bookies : List ℕ)
 unfolding with_luck after
 round_empties luck i s [] = record { all = empties_same s; each = tt }
 round_empties luck i s (b ∷ more) =
-    let u : State = after s (fated (luck i) (Commit b)) in
+    let u : State = after s (steps_by_luck (luck i) (Commit b)) in
     let rest : List Atom = with_luck luck (suc i) (map Commit more) in
     let first = fated_commit s (luck i) b in
     let later = round_empties luck (suc i) u more in
-    subst (λ t. EmptiesAll (b ∷ more) s t) (sym (after-append s (fated (luck i) (Commit b)) rest))
+    subst (λ t. EmptiesAll (b ∷ more) s t) (sym (after-append s (steps_by_luck (luck i) (Commit b)) rest))
     (record { all = empties_then s u (after u rest) first.all later.all; each = (later.all.idle b first.here, later.each) })
 
 -- what holds of each in a list and one more
@@ -272,11 +272,11 @@ unfolding measure
 measure_at_most limit s = omega (arith, unmarked_at_most s.delivered limit, one_at_most (nodes_due s (bookies_of s.conf)))
 
 -- a mark more is less, whatever is due then
-delivery_lowers : (limit : ℕ) (s t : State) (place : ℕ) → place < limit → s.delivered place ≡ false → t.delivered ≡ put s.delivered place true
+delivery_lowers : (limit : ℕ) (s t : State) (place : ℕ) → place < limit → s.delivered place ≡ false → t.delivered ≡ with_value s.delivered place true
     → measure limit t < measure limit s
 unfolding measure
 delivery_lowers limit s t place below unseen e =
-    let same : unmarked t.delivered limit ≡ unmarked (put s.delivered place true) limit = ap (λ (f : ℕ → Bool). unmarked f limit) e in
+    let same : unmarked t.delivered limit ≡ unmarked (with_value s.delivered place true) limit = ap (λ (f : ℕ → Bool). unmarked f limit) e in
     omega (arith, same, unmarked_marked s.delivered place limit below unseen, one_at_most (nodes_due t (bookies_of t.conf)))
 
 -- a round of commits is less
@@ -374,5 +374,5 @@ no_turn_is_quiet xs e = ap (λ (ys : List Atom). length ys == 0) e
 
 pub settling_ends_quiet : SettlingEndsQuiet
 settling_ends_quiet luck s few =
-    no_turn_is_quiet (turn (settled luck s))
+    no_turn_is_quiet (turn (state_after_settling luck s))
     (quiet_by luck turn_limit 0 most_messages s (enough_turns (measure most_messages s) (measure_at_most most_messages s)) few)

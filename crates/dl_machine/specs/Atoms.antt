@@ -13,7 +13,7 @@ use Rattle.dl_session.specs.declared.admit.Admit.{Admit}
 use Rattle.dl_session.specs.declared.admit.Admit.TheVariants as admit
 use Rattle.dl_session.specs.Sessions.{is_live}
 use Rattle.dl_formats.specs.declared.conf.Conf.{Conf}
-use Rattle.dl_rules_nodes.specs.Bookies.{Bookie, Taken, Reply, taken, after, answer_now, replies_of, committed, stopped, emptied}
+use Rattle.dl_rules_nodes.specs.Bookies.{Bookie, Taken, Reply, table_row, after, answer_now, replies_of, after_commit, after_stop, without_queue}
 use Rattle.dl_rules_nodes.specs.Items.{Setup, Connect, Expire, Ask}
 use Rattle.dl_rules_nodes.specs.Metadata.{Meta, meta_of, admit_of, answer_of, reply_of}
 use Rattle.dl_schedule.specs.declared.step.Step.{Step}
@@ -21,7 +21,7 @@ use Rattle.dl_transcript.specs.declared.event.Event.{Event}
 use Rattle.dl_transcript.specs.declared.event.Event.TheVariants as event
 use Rattle.dl_rules_client.specs.Acts.{Input, Line, Came, Acts}
 use Rattle.dl_rules_client.specs.Clients.{acts_of}
-use Rattle.dl_machine.specs.States.{State, Node, Mode, Up, Down, Lost, Joined, Outcome, put, with_node, with_bookie, with_client, with_letters, with_meta_item, marks, is_up, can_take, args_of, quietly, then_shows}
+use Rattle.dl_machine.specs.States.{State, Node, Mode, Up, Down, Lost, Joined, Outcome, with_value, with_node, with_bookie, with_client, with_letters, with_meta_item, marks, is_up, can_take, args_of, quietly, then_shows}
 use Rattle.dl_machine.specs.Growth.{with_sent, confirms, shows_run}
 
 pub data Atom : Type 0 where
@@ -99,7 +99,7 @@ ends s k =
 abbrev pub with_acts : State → ℕ → Joined → Input → Acts → State
 with_acts s c me x acts =
     let now = with_client s c (Some (record me { view = x ∷ me.view })) in
-    with_sent (record (with_letters now acts.letters) { calls = put s.calls c (s.calls c + acts.taken) }) acts.sent
+    with_sent (record (with_letters now acts.letters) { calls = with_value s.calls c (s.calls c + acts.taken) }) acts.sent
 
 -- a client does something as it takes this: what its writer has confirmed grows, and then its own events come
 abbrev pub acts_on : State → ℕ → Joined → Input → Acts → Outcome
@@ -130,7 +130,7 @@ takes_row s l b c row =
 
 -- a storage node takes a letter of a client
 abbrev pub bookie_takes : State → Letter → (bookie client : ℕ) → State
-bookie_takes s l b c = takes_row s l b c (taken (s.nodes b).bookie l.msg)
+bookie_takes s l b c = takes_row s l b c (table_row (s.nodes b).bookie l.msg)
 
 -- A request to the metadata node: its session, its number in it, and its operation.
 pub record MetaRequest : Type 0 where
@@ -194,16 +194,16 @@ reply_letter b r = record { from = AtBookie b; to = Client r.client; session = r
 abbrev pub commits : State → ℕ → State
 commits s b =
     let k = (s.nodes b).bookie in
-    with_letters (with_bookie s b (committed k)) (map (reply_letter b) (replies_of k))
+    with_letters (with_bookie s b (after_commit k)) (map (reply_letter b) (replies_of k))
 
 -- a storage node that is up goes down inside a commit, with its batch or without; its disk may hold either
 abbrev pub stopped_node : Node → Bool → Node
 stopped_node n kept =
-    if is_up n.mode then record { bookie = stopped n.bookie kept; mode = Down; other = Some (stopped n.bookie (not kept)) } else n
+    if is_up n.mode then record { bookie = after_stop n.bookie kept; mode = Down; other = Some (after_stop n.bookie (not kept)) } else n
 
 -- a storage node that is up goes down, and its queue is gone
 abbrev pub killed_node : Node → Node
-killed_node n = if is_up n.mode then record n { bookie = emptied n.bookie; mode = Down } else n
+killed_node n = if is_up n.mode then record n { bookie = without_queue n.bookie; mode = Down } else n
 
 -- a storage node that is down is loaded, and what its disk holds is settled
 abbrev pub risen_node : Node → Mode → Node
@@ -224,7 +224,7 @@ loosened_node n Lost other = n
 
 -- a storage node whose disk is lost
 abbrev pub lost_node : Node → Node
-lost_node n = record n { bookie = emptied n.bookie; mode = Lost }
+lost_node n = record n { bookie = without_queue n.bookie; mode = Lost }
 
 -- a storage node goes down on a letter
 abbrev pub faints_at : State → Address → State

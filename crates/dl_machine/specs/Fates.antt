@@ -4,7 +4,7 @@ use Rattle.std.specs.List.{list_all}
 use Rattle.dl_types.specs.declared.address.Address.{Address}
 use Rattle.dl_types.specs.declared.address.Address.TheVariants.{Client, Bookie as AtBookie, Meta as AtMeta}
 use Rattle.dl_msg.specs.declared.letter.Letter.{Letter}
-use Rattle.dl_rules_nodes.specs.Bookies.{Taken, Looks, Answers, Queues, taken}
+use Rattle.dl_rules_nodes.specs.Bookies.{Taken, Looks, Answers, Queues, table_row}
 use Rattle.dl_machine.specs.States.{State}
 use Rattle.dl_machine.specs.Atoms.{Atom, SetUp, Deliver, Commit, Stop, Kill, Rise, Faint, Loosen}
 
@@ -18,18 +18,18 @@ pub data Luck : Type 0 where
 
 -- A commit that fails stops the node, with the batch or without; a letter that has to be looked up goes with the node; a load that
 -- fails leaves the node down, and may change what the disk holds of the last commit.
-unfoldable pub fated : Luck → Atom → List Atom
-fated (Fails kept) (Commit b) = Stop b kept ∷ []
-fated (Fails kept) (Deliver place) = Faint place ∷ []
-fated (Fails kept) (Rise b) = Loosen b kept ∷ []
-fated Falls (Commit b) = Commit b ∷ Kill b ∷ []
-fated (Unmade bookies) (SetUp conf) = SetUp conf ∷ map Kill bookies
-fated luck a = a ∷ []
+unfoldable pub steps_by_luck : Luck → Atom → List Atom
+steps_by_luck (Fails kept) (Commit b) = Stop b kept ∷ []
+steps_by_luck (Fails kept) (Deliver place) = Faint place ∷ []
+steps_by_luck (Fails kept) (Rise b) = Loosen b kept ∷ []
+steps_by_luck Falls (Commit b) = Commit b ∷ Kill b ∷ []
+steps_by_luck (Unmade bookies) (SetUp conf) = SetUp conf ∷ map Kill bookies
+steps_by_luck luck a = a ∷ []
 
 -- the lucks of a line are numbered by its atomic steps
 unfoldable pub with_luck : (ℕ → Luck) → ℕ → List Atom → List Atom
 with_luck luck i [] = []
-with_luck luck i (a ∷ more) = fated (luck i) a ++ with_luck luck (suc i) more
+with_luck luck i (a ∷ more) = steps_by_luck (luck i) a ++ with_luck luck (suc i) more
 
 -- no device fails
 abbrev pub well : ℕ → Luck
@@ -45,7 +45,7 @@ is_look (Queues reply item) = false
 
 -- a letter is answered by a look at the disk of one of the storage nodes whose devices failed
 abbrev pub looks_at : (ℕ → Bool) → State → Letter → Address → Bool
-looks_at failed s l (AtBookie b) = failed b && is_look (taken (s.nodes b).bookie l.msg)
+looks_at failed s l (AtBookie b) = failed b && is_look (table_row (s.nodes b).bookie l.msg)
 looks_at failed s l AtMeta = false
 looks_at failed s l (Client c) = false
 

@@ -23,7 +23,7 @@ use Rattle.dl_formats.specs.Reading.{ledger_at, segment_at, cut_at}
 use Rattle.dl_transcript.specs.declared.event.Event.{Event}
 use Rattle.dl_transcript.specs.declared.event.Event.TheVariants as event
 use Rattle.dl_rules_client.specs.Acts.{SentEntry, Confirmation}
-use Rattle.dl_machine.specs.States.{State, LedgerSeen, Outcome, put, quietly, then_shows, and_then}
+use Rattle.dl_machine.specs.States.{State, LedgerSeen, Outcome, with_value, quietly, then_shows, and_then}
 
 -- ---- rows
 
@@ -45,7 +45,7 @@ grown_to g n = record g { grown = max g.grown n }
 
 -- a ledger that is now this one
 abbrev pub with_ledger : State → ℕ → LedgerSeen → State
-with_ledger s l g = record s { ledgers = put s.ledgers l g }
+with_ledger s l g = record s { ledgers = with_value s.ledgers l g }
 
 -- a ledger grows to n
 abbrev pub grows : State → ℕ → ℕ → Outcome

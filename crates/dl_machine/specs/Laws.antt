@@ -5,7 +5,7 @@ use Rattle.dl_rules_nodes.specs.Items.{MetaItem}
 use Rattle.dl_rules_nodes.specs.Metadata.{MetaNode}
 use Rattle.dl_schedule.specs.declared.step.Step.{Step}
 use Rattle.dl_transcript.specs.declared.event.Event.{Event}
-use Rattle.dl_machine.specs.States.{State, Node, Joined, blank, loaded, is_up}
+use Rattle.dl_machine.specs.States.{State, Node, Joined, blank, state_of_files, is_up}
 use Rattle.dl_machine.specs.Atoms.{Atom, meta_in, atom}
 use Rattle.dl_machine.specs.Fates.{Luck, with_luck, well}
 use Rattle.dl_machine.specs.Limits.{most_messages, turn_limit}
@@ -105,20 +105,20 @@ pub record DurableItemsStay : Type 0 where
       → Extends (durable (s.nodes b).bookie) (durable ((atom s a).state.nodes b).bookie)
   pub begun : UpAreSettled blank
   pub files : (bookies : List (Option Bookie)) (meta : MetaNode)
-      → UpAreSettled (loaded bookies meta)
+      → UpAreSettled (state_of_files bookies meta)
   pub reached : (s : State) (xs : List Atom) → UpAreSettled s → UpAreSettled (after s xs)
 
 -- ---- settling
 
 -- the state that a settling leaves
-abbrev pub settled : (ℕ → Luck) → State → State
-settled luck s = after s (settles luck turn_limit 0 s)
+abbrev pub state_after_settling : (ℕ → Luck) → State → State
+state_after_settling luck s = after s (settles luck turn_limit 0 s)
 
 -- where letters stay within their limit, a settling leaves nothing to settle, whatever the devices
 -- do
 abbrev pub SettlingEndsQuiet : Type 0
 SettlingEndsQuiet = (luck : ℕ → Luck) (s : State)
-    → length (settled luck s).letters ≤ most_messages → is_quiet (settled luck s) ≡ true
+    → length (state_after_settling luck s).letters ≤ most_messages → is_quiet (state_after_settling luck s) ≡ true
 
 -- ---- sessions
 
@@ -135,5 +135,5 @@ JoinedAreGiven s = (c : ℕ) (me : Joined) → s.clients c ≡ Some me → IsGiv
 pub record SessionsAreGiven : Type 0 where
   pub begun : JoinedAreGiven blank
   pub files : (bookies : List (Option Bookie)) (meta : MetaNode)
-      → JoinedAreGiven (loaded bookies meta)
+      → JoinedAreGiven (state_of_files bookies meta)
   pub reached : (s : State) (xs : List Atom) → JoinedAreGiven s → JoinedAreGiven (after s xs)

@@ -4,7 +4,7 @@ use Rattle.dl_types.specs.declared.limit.LimitName.TheVariants as limit
 use Rattle.dl_text.specs.TextLines.{lines_of}
 use Rattle.dl_schedule.specs.declared.step.Step.{Step}
 use Rattle.dl_schedule.specs.StepReading.{parsed_line}
-use Rattle.dl_transcript.specs.Lines.{numbered, print_transcript}
+use Rattle.dl_transcript.specs.Lines.{at_line, print_transcript}
 use Rattle.dl_machine.specs.States.{State, blank}
 use Rattle.dl_machine.specs.Atoms.{Atom}
 use Rattle.dl_machine.specs.Limits.{Traffic, no_traffic, with_traffic, letters_since, Past, past_where, first_past, past_in, most_lines, most_schedule, most_transcript}
@@ -70,7 +70,7 @@ run_of g atoms text = record {
 
 -- the run of these atomic steps
 abbrev pub run_atoms : Going → List Atom → LineRun
-run_atoms g atoms = run_of g atoms (print_transcript (numbered (suc g.lines) (events g.state atoms)))
+run_atoms g atoms = run_of g atoms (print_transcript (at_line (suc g.lines) (events g.state atoms)))
 
 -- behind a line of so many bytes that was run
 abbrev pub going_behind : Going → ℕ → LineRun → Going

@@ -5,10 +5,10 @@ use Rattle.dl_schedule.specs.declared.step.Step.{Step}
 use Rattle.dl_schedule.specs.declared.step.Step.TheVariants as step
 use Rattle.dl_transcript.specs.declared.event.Event.{Event}
 use Rattle.dl_transcript.specs.declared.event.Event.TheVariants as event
-use Rattle.dl_transcript.specs.Lines.{numbered}
+use Rattle.dl_transcript.specs.Lines.{at_line}
 use Rattle.dl_machine.specs.States.{State, Outcome, blank, bookies_of, can_take}
 use Rattle.dl_machine.specs.Atoms.{Atom, Deliver, Commit, Shows, atom}
-use Rattle.dl_machine.specs.Fates.{Luck, fated, with_luck, well, may_have}
+use Rattle.dl_machine.specs.Fates.{Luck, steps_by_luck, with_luck, well, may_have}
 use Rattle.dl_machine.specs.Lines.{is_idle, plain_atoms, has_queue}
 use Rattle.dl_machine.specs.Limits.{turn_limit}
 
@@ -79,7 +79,7 @@ step_with luck s line x = let atoms = line_atoms luck s line x in record { state
 -- each atomic step has a luck that it may have, where the devices of these storage nodes failed
 unfoldable pub are_fit : (ℕ → Bool) → (ℕ → Luck) → ℕ → State → List Atom → Bool
 are_fit failed luck i s [] = true
-are_fit failed luck i s (a ∷ more) = may_have failed s (luck i) a && are_fit failed luck (suc i) (after s (fated (luck i) a)) more
+are_fit failed luck i s (a ∷ more) = may_have failed s (luck i) a && are_fit failed luck (suc i) (after s (steps_by_luck (luck i) a)) more
 
 -- the same of a turn of settling and of the rest
 abbrev pub fit_on : (ℕ → Bool) → (ℕ → Luck) → State → List Atom → ℕ → (ℕ → State → Bool) → Bool
@@ -110,7 +110,7 @@ pub record Run : Type 0 where
 
 -- the events of a line, and then a run behind it
 abbrev pub behind : ℕ → List Event → Run → Run
-behind line events rest = record rest { transcript = numbered line events ++ rest.transcript }
+behind line events rest = record rest { transcript = at_line line events ++ rest.transcript }
 
 -- the run of lines, numbered from this one on, where no device fails
 unfoldable pub run : State → ℕ → List Step → Run

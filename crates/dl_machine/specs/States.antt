@@ -86,8 +86,8 @@ loaded_node None = record { bookie = empty_bookie; mode = Lost; other = None }
 loaded_node (Some b) = record { bookie = b; mode = Up; other = None }
 
 -- the state of files that hold these lists: no client has joined, and no letter was sent
-abbrev pub loaded : List (Option Bookie) → MetaNode → State
-loaded bookies meta = record blank {
+abbrev pub state_of_files : List (Option Bookie) → MetaNode → State
+state_of_files bookies meta = record blank {
   conf = conf_in meta.items;
   nodes = λ b. loaded_node (slice_index_or bookies b None);
   meta = meta;
@@ -97,12 +97,12 @@ loaded bookies meta = record blank {
 -- ---- changes
 
 -- a function with another value at one number
-abbrev pub put : {A : Type 0} → (ℕ → A) → ℕ → A → ℕ → A
-put f i x j = if j == i then x else f j
+abbrev pub with_value : {A : Type 0} → (ℕ → A) → ℕ → A → ℕ → A
+with_value f i x j = if j == i then x else f j
 
 -- another storage node at a number
 abbrev pub with_node : State → ℕ → Node → State
-with_node s b n = record s { nodes = put s.nodes b n }
+with_node s b n = record s { nodes = with_value s.nodes b n }
 
 -- another list and queue of a storage node
 abbrev pub with_bookie : State → ℕ → Bookie → State
@@ -110,7 +110,7 @@ with_bookie s b k = with_node s b (record (s.nodes b) { bookie = k })
 
 -- another process of a client, or none
 abbrev pub with_client : State → ℕ → Option Joined → State
-with_client s c me = record s { clients = put s.clients c me }
+with_client s c me = record s { clients = with_value s.clients c me }
 
 -- letters more
 abbrev pub with_letters : State → List Letter → State
@@ -122,7 +122,7 @@ with_meta_item s x = record s { meta = with_item s.meta x }
 
 -- the letter at a place is delivered
 abbrev pub marks : State → ℕ → State
-marks s place = record s { delivered = put s.delivered place true }
+marks s place = record s { delivered = with_value s.delivered place true }
 
 -- ---- parts of the state
 

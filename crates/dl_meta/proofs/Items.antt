@@ -14,7 +14,7 @@ use Rattle.dl_session.specs.declared.admit.Admit.TheVariants as admit
 use Rattle.dl_session.specs.Sessions.{Known, number_in, admission, after_connect, after_expiry, after_run}
 use Rattle.dl_rules_nodes.specs.Items.{MetaItem, Connect, Expire, Ask}
 use Rattle.dl_rules_nodes.specs.Metadata.{Meta, does, answer_of}
-use Rattle.dl_rules_nodes.specs.Reading.{left_of, placed}
+use Rattle.dl_rules_nodes.specs.Reading.{left_of, with_place}
 use Rattle.dl_rules_nodes.specs.MetaReading.{is_above, meta_item_from, meta_item_in}
 use Rattle.dl_rules_nodes.specs.MetaOrder.{IsDue}
 use Rattle.dl_rules_nodes.proofs.MetaItemLaws.{meta_items_are_exact}
@@ -77,13 +77,13 @@ pub body_done : (end : ℕ) (is_first : Bool) (body : List ℕ) (old new : Meta)
     → DoesItem end is_first body old new
 body_done end is_first body old new x fits e done =
     let found = whole_found (meta_items_are_exact is_first old.sessions) body x fits e in
-    record { item = x; read = ap (placed end) e; due = found.0; spelt = found.1; meta = done }
+    record { item = x; read = ap (with_place end) e; due = found.0; spelt = found.1; meta = done }
 
 -- a body that is refused
 pub body_refused : (end : ℕ) (is_first : Bool) (body : List ℕ) (old new : Meta) (f : Fault) (left : ℕ) → meta_item_in is_first old.sessions body ≡ Err f
     → left ≡ left_of f
     → DoesBody end is_first body old new (Err (fault.Damaged (end - left)))
-body_refused end is_first body old new f left e is = ap (placed end) e ∙ ap (λ (n : ℕ). Err (end - n)) (sym is)
+body_refused end is_first body old new f left e is = ap (with_place end) e ∙ ap (λ (n : ℕ). Err (end - n)) (sym is)
 
 -- ---- what an item does, part by part
 

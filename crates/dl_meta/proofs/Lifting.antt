@@ -15,7 +15,7 @@ use Rattle.dl_journal.specs.declared.commit_fault.CommitFault.TheVariants as com
 use Rattle.dl_journal.specs.State.{JournalState}
 use Rattle.dl_journal.specs.Batches.{IsJournal, BeforeOrAfter}
 use Rattle.dl_journal.specs.Calls.{MakesCalls, Spent, StopsWork, Caught}
-use Rattle.dl_journal.specs.Settled.{Settled, Stands}
+use Rattle.dl_journal.specs.Settled.{IsSettled, Stands}
 use Rattle.dl_journal.specs.Commits.{body_of, Committed, Shows, batch_of, state_after, commit_calls, is_gate_open}
 use Rattle.dl_journal.proofs.Staging.{at_rest}
 use Rattle.dl_rules_nodes.specs.Items.{MetaItem, meta_item_bytes, meta_item_length}
@@ -75,7 +75,7 @@ module _ (old new : View) (n : MetaNode) (x : MetaItem) (before after : MetaStat
 
   -- at each moment of a commit
   moments : (shown : List ℕ) (r : Result (Unit {0}) CommitFault) → Committed old new before.journal after.journal (meta_item_bytes x) r
-      → Settled old before.journal shown (batches_of n) → LeavesOnly meta_file old new (HoldsEither n x)
+      → IsSettled old before.journal shown (batches_of n) → LeavesOnly meta_file old new (HoldsEither n x)
   moments shown r c settled =
       subst (λ (f : ℕ). LeavesOnly f old new (HoldsEither n x)) stands.file
       (λ t bytes from to image. either bytes (c.any_moment shown (batches_of n) settled t bytes from to image))
@@ -92,7 +92,7 @@ module _ (old new : View) (n : MetaNode) (x : MetaItem) (before after : MetaStat
       go true i = subst (IsJournal bytes) pushed i
       go false i = i
 
-  module _ (shown : List ℕ) (settled : Settled old before.journal shown (batches_of n)) where
+  module _ (shown : List ℕ) (settled : IsSettled old before.journal shown (batches_of n)) where
     -- an item that was committed
     committed_on_file : {A : Type 0} (a : A) → Committed old new before.journal after.journal (meta_item_bytes x) (Ok tt)
         → CommitsOnFile old new n x before after (Ok a)
@@ -101,7 +101,7 @@ module _ (old new : View) (n : MetaNode) (x : MetaItem) (before after : MetaStat
       ok = λ now is.
           let s = c.ok shown (batches_of n) settled in
           let same : s.0 ≡ now = some_is s.0 now (sym s.1.on_disk.shown ∙ ap new.shown (c.file ∙ stands.file) ∙ is) in
-          subst (λ (bytes : List ℕ). Settled new after.journal bytes (batches_of (with_item n x))) same (subst (Settled new after.journal s.0) pushed s.1);
+          subst (λ (bytes : List ℕ). IsSettled new after.journal bytes (batches_of (with_item n x))) same (subst (IsSettled new after.journal s.0) pushed s.1);
       spends = λ f is.
           let spent = c.spends f shown (batches_of n) (ap old.fuse stands.file ∙ is) settled in
           subst (λ (file : ℕ). Spent new file (item_calls before x) f) stands.file spent;
@@ -125,7 +125,7 @@ module _ (old new : View) (n : MetaNode) (x : MetaItem) (before after : MetaStat
 
 -- one for which memory ran out
 rested_on_file : {A : Type 0} (view : View) (n : MetaNode) (x : MetaItem) (s : MetaState) → StandsFor n s → (shown : List ℕ)
-    → Settled view s.journal shown (batches_of n)
+    → IsSettled view s.journal shown (batches_of n)
     → CommitsOnFile {A = A} view view n x s s (Err fault.NoMemory)
 unfolding HoldsItems
 rested_on_file view n x s h shown settled = record {

@@ -15,7 +15,7 @@ use Rattle.dl_journal.specs.declared.load_fault.LoadFault.TheVariants as load
 use Rattle.dl_journal.specs.State.{JournalState}
 use Rattle.dl_journal.specs.Batches.{IsJournal}
 use Rattle.dl_journal.specs.Load.{CountsLoad, ReadsFile, Loaded}
-use Rattle.dl_journal.specs.Settled.{Settled, Stands}
+use Rattle.dl_journal.specs.Settled.{IsSettled, Stands}
 use Rattle.dl_journal.proofs.Staging.{at_rest}
 use Rattle.dl_journal.proofs.Through.{rose_on}
 use Rattle.dl_tree.specs.Trees.{Nodes}
@@ -132,7 +132,7 @@ module _ (a m b : View) (size : ℕ) (sized : Sized a m meta_file (Ok size)) (so
     unfolding loaded_meta
     broken_loads at e = loads a b (Err (fault.Damaged at)) read same_count (λ bytes is. answers bytes (l.ok bytes (shown bytes is)) is) tt
       where
-        answers : (bytes : List ℕ) → Settled b j bytes batches.items → a.shown meta_file ≡ Some bytes → AnswersLoad b bytes (Err (fault.Damaged at))
+        answers : (bytes : List ℕ) → IsSettled b j bytes batches.items → a.shown meta_file ≡ Some bytes → AnswersLoad b bytes (Err (fault.Damaged at))
         answers bytes s is = (
           s.fits,
           (
@@ -183,7 +183,7 @@ module _ (a m b : View) (size : ℕ) (sized : Sized a m meta_file (Ok size)) (so
           (λ bytes is. record {
             node = node l.in_row.first;
             stands = stands;
-            settled = subst (Settled b j bytes) (batches_are l.in_row.first (numbered_is l.in_row.first batches.items l.in_row.runs))
+            settled = subst (IsSettled b j bytes) (batches_are l.in_row.first (numbered_is l.in_row.first batches.items l.in_row.runs))
                 (l.ok bytes (shown bytes is));
           })
           (record { node = node l.in_row.first; stands = stands; journal = l.stands })

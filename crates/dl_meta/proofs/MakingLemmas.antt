@@ -12,7 +12,7 @@ use Rattle.dl_journal.specs.declared.commit_fault.CommitFault.{CommitFault}
 use Rattle.dl_journal.specs.declared.commit_fault.CommitFault.TheVariants as commit
 use Rattle.dl_journal.specs.State.{JournalState}
 use Rattle.dl_journal.specs.Calls.{MakesCalls, store_calls}
-use Rattle.dl_journal.specs.Settled.{Settled}
+use Rattle.dl_journal.specs.Settled.{IsSettled}
 use Rattle.dl_journal.specs.Commits.{Made, Committed, CountsCommit, start, new_journal, batch_of, body_of, state_after, commit_calls}
 use Rattle.dl_journal.proofs.Through.{rose_on}
 use Rattle.dl_formats.specs.declared.conf.Conf.{Conf}
@@ -20,7 +20,7 @@ use Rattle.dl_formats.specs.NodeBytes.{IsConf}
 use Rattle.dl_rules_nodes.specs.Items.{Setup, meta_item_bytes}
 use Rattle.dl_rules_nodes.specs.Metadata.{Meta, MetaNode, meta_from, meta_of, meta_gate, does, nothing, first_tree}
 use Rattle.dl_rules_nodes.specs.MetaOrder.{IsDue}
-use Rattle.dl_session.specs.Sessions.{Known, none_known}
+use Rattle.dl_session.specs.Sessions.{Known, no_sessions}
 use Rattle.dl_tree.specs.Trees.{Nodes}
 use Rattle.dl_meta.specs.declared.meta_fault.MetaFault.{MetaFault}
 use Rattle.dl_meta.specs.declared.meta_fault.MetaFault.TheVariants as fault
@@ -140,7 +140,7 @@ journal_failed a b conf e made = record {
 
 -- a new store stands for a new node
 made_stands : (conf : Conf) (j : JournalState) → IsConf conf → j ≡ state_after (new_journal meta_file) (meta_item_bytes (Setup conf))
-    → StandsFor (made_node conf) (record { tree = first_tree conf; sessions = none_known; journal = j })
+    → StandsFor (made_node conf) (record { tree = first_tree conf; sessions = no_sessions; journal = j })
 unfolding meta_from meta_gate does
 made_stands conf j valid e = record {
   meta = refl;
@@ -155,7 +155,7 @@ made_stands conf j valid e = record {
 
 -- a new store stands for a new node, and is on its file
 pub store_made : (a b : View) (conf : Conf) (j : JournalState) → IsConf conf → MakesJournal a b (meta_item_bytes (Setup conf)) (Ok j)
-    → Makes a b conf (Ok (record { tree = first_tree conf; sessions = none_known; journal = j }))
+    → Makes a b conf (Ok (record { tree = first_tree conf; sessions = no_sessions; journal = j }))
 unfolding batches_of
 store_made a b conf j valid made = record {
   keeps = made.keeps;
@@ -168,7 +168,7 @@ store_made a b conf j valid made = record {
       let s = made.settled was is in
       let at : j.file ≡ meta_file = ap (λ (k : JournalState). k.file) made.state in
       let same : s.0 ≡ now = some_is s.0 now (sym s.1.on_disk.shown ∙ ap b.shown at ∙ shown) in
-      subst (λ (bytes : List ℕ). Settled b j bytes (batches_of (made_node conf))) same s.1;
+      subst (λ (bytes : List ℕ). IsSettled b j bytes (batches_of (made_node conf))) same s.1;
 }
   where
     some_is : (x y : List ℕ) → Some x ≡ Some y → x ≡ y
@@ -216,10 +216,10 @@ journal_failed_by a b conf frame e is made = journal_failed a b conf e (subst (�
 
 -- the store was made
 pub store_made_by : (a b : View) (conf : Conf) (frame : List ℕ) (tree : Nodes) (sessions : Known) (j : JournalState) (s : MetaState)
-    → frame ≡ framed (meta_item_bytes (Setup conf)) → IsConf conf → tree ≡ first_tree conf → sessions ≡ none_known → MakesJournal a b (body_of frame) (Ok j)
+    → frame ≡ framed (meta_item_bytes (Setup conf)) → IsConf conf → tree ≡ first_tree conf → sessions ≡ no_sessions → MakesJournal a b (body_of frame) (Ok j)
     → s ≡ record { tree = tree; sessions = sessions; journal = j } → Makes a b conf (Ok s)
 store_made_by a b conf frame tree sessions j s is valid grown none made whole =
-    let same : record { tree = first_tree conf; sessions = none_known; journal = j } ≡ s =
+    let same : record { tree = first_tree conf; sessions = no_sessions; journal = j } ≡ s =
     sym (whole ∙ ap₂ (λ (t : Nodes) (k : Known). record { tree = t; sessions = k; journal = j }) grown none) in
     subst (λ (x : MetaState). Makes a b conf (Ok x)) same
     (store_made a b conf j valid (subst (λ (l : List ℕ). MakesJournal a b l (Ok j)) (body_is conf frame is) made))

@@ -4,7 +4,7 @@ use Rattle.dl_journal.specs.Limits.{journal_limit}
 use Rattle.dl_journal.specs.declared.batch.Batch.{Batch}
 use Rattle.dl_journal.specs.Batches.{InRow, spell}
 use Rattle.dl_rules_nodes.specs.Metadata.{Meta}
-use Rattle.dl_rules_nodes.specs.Reading.{placed}
+use Rattle.dl_rules_nodes.specs.Reading.{with_place}
 use Rattle.dl_rules_nodes.specs.MetaReading.{meta_item_in}
 use Rattle.dl_meta.specs.declared.meta_fault.MetaFault.{MetaFault}
 use Rattle.dl_meta.specs.declared.meta_fault.MetaFault.TheVariants as fault
@@ -28,7 +28,8 @@ pub ends_by : (bodies : List (List ℕ)) (i at end : ℕ) (m n : Meta) (body : L
     → body ≡ get_or bodies i body
     → end ≡ at + (13 + length body) → DoesBody end (i == 0) body m n (Err f) → DoesBodies bodies (Err f)
 ends_by bodies i at end m n body (fault.Damaged place) r within is e refused =
-    stops bodies i at m body place r within is (subst (λ (k : ℕ). placed k (meta_item_in (i == 0) m.sessions body) ≡ Err place) (ends_at at end body e) refused)
+    stops bodies i at m body place r within is
+    (subst (λ (k : ℕ). with_place k (meta_item_in (i == 0) m.sessions body) ≡ Err place) (ends_at at end body e) refused)
 ends_by bodies i at end m n body fault.NoMemory r within is e u = tt
 ends_by bodies i at end m n body fault.Device r within is e wrong = absurd wrong
 ends_by bodies i at end m n body fault.Failed r within is e wrong = absurd wrong

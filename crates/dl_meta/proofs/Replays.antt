@@ -10,7 +10,7 @@ use Rattle.dl_journal.specs.Batches.{frame_of, spell, Runs}
 use Rattle.dl_journal.proofs.Bytes.{length-framed}
 use Rattle.dl_rules_nodes.specs.Items.{MetaItem, meta_item_bytes, meta_item_length}
 use Rattle.dl_rules_nodes.specs.Metadata.{Meta, MetaNode, nothing, does, meta_from, meta_of, meta_gate}
-use Rattle.dl_rules_nodes.specs.Reading.{placed}
+use Rattle.dl_rules_nodes.specs.Reading.{with_place}
 use Rattle.dl_rules_nodes.specs.MetaReading.{meta_item_in}
 use Rattle.dl_rules_nodes.specs.MetaOrder.{IsDue, is_first_behind, AreInOrder, bodies_of}
 use Rattle.dl_rules_nodes.specs.Loads.{◌>>=◌, meta_items_at, loaded_meta}
@@ -34,14 +34,14 @@ begins bodies m e = record { older = []; meta = e; first = refl; in_order = tt; 
 
 -- an item that was read
 item_read : (at : ℕ) (is_first : Bool) (m : Meta) (older : List MetaItem) (body : List ℕ) (more : List (List ℕ)) (x : MetaItem)
-    → placed (at + 13 + length body) (meta_item_in is_first m.sessions body) ≡ Ok x
+    → with_place (at + 13 + length body) (meta_item_in is_first m.sessions body) ≡ Ok x
     → meta_items_at at is_first m older (body ∷ more) ≡ meta_items_at (at + 13 + length body) false (does m x) (x ∷ older) more
 unfolding meta_items_at
 item_read at is_first m older body more x e = rw e refl
 
 -- one that was refused
 item_refused : (at : ℕ) (is_first : Bool) (m : Meta) (older : List MetaItem) (body : List ℕ) (more : List (List ℕ)) (place : ℕ)
-    → placed (at + 13 + length body) (meta_item_in is_first m.sessions body) ≡ Err place → meta_items_at at is_first m older (body ∷ more) ≡ Err place
+    → with_place (at + 13 + length body) (meta_item_in is_first m.sessions body) ≡ Err place → meta_items_at at is_first m older (body ∷ more) ≡ Err place
 unfolding meta_items_at
 item_refused at is_first m older body more place e = rw e refl
 
@@ -68,9 +68,9 @@ goes_on bodies i at m n body r within is d =
     let next : drop i bodies ≡ body ∷ drop (i + 1) bodies = next_body i bodies body within is in
     let due : IsDue (is_first_behind r.older) (meta_of r.older).sessions d.item =
     subst (λ (b : Bool). IsDue b (meta_of r.older).sessions d.item) (sym r.first) (subst (λ (k : Meta). IsDue (i == 0) k.sessions d.item) r.meta d.due) in
-    let read : placed (at + 13 + length body) (meta_item_in (is_first_behind r.older) (meta_of r.older).sessions body) ≡ Ok d.item =
-    subst (λ (b : Bool). placed (at + 13 + length body) (meta_item_in b (meta_of r.older).sessions body) ≡ Ok d.item) (sym r.first)
-    (subst (λ (k : Meta). placed (at + 13 + length body) (meta_item_in (i == 0) k.sessions body) ≡ Ok d.item) r.meta d.read) in
+    let read : with_place (at + 13 + length body) (meta_item_in (is_first_behind r.older) (meta_of r.older).sessions body) ≡ Ok d.item =
+    subst (λ (b : Bool). with_place (at + 13 + length body) (meta_item_in b (meta_of r.older).sessions body) ≡ Ok d.item) (sym r.first)
+    (subst (λ (k : Meta). with_place (at + 13 + length body) (meta_item_in (i == 0) k.sessions body) ≡ Ok d.item) r.meta d.read) in
     record {
       older = d.item ∷ r.older;
       meta = d.meta ∙ ap (λ (k : Meta). does k d.item) r.meta;
@@ -85,11 +85,11 @@ goes_on bodies i at m n body r within is d =
 
 -- a body that is refused
 pub stops : (bodies : List (List ℕ)) (i at : ℕ) (m : Meta) (body : List ℕ) (place : ℕ) → Reached bodies i at m → i < length bodies → body ≡ get_or bodies i body
-    → placed (at + 13 + length body) (meta_item_in (i == 0) m.sessions body) ≡ Err place → meta_items_at 8 true nothing [] bodies ≡ Err place
+    → with_place (at + 13 + length body) (meta_item_in (i == 0) m.sessions body) ≡ Err place → meta_items_at 8 true nothing [] bodies ≡ Err place
 stops bodies i at m body place r within is e =
-    let read : placed (at + 13 + length body) (meta_item_in (is_first_behind r.older) (meta_of r.older).sessions body) ≡ Err place =
-    subst (λ (b : Bool). placed (at + 13 + length body) (meta_item_in b (meta_of r.older).sessions body) ≡ Err place) (sym r.first)
-    (subst (λ (k : Meta). placed (at + 13 + length body) (meta_item_in (i == 0) k.sessions body) ≡ Err place) r.meta e) in
+    let read : with_place (at + 13 + length body) (meta_item_in (is_first_behind r.older) (meta_of r.older).sessions body) ≡ Err place =
+    subst (λ (b : Bool). with_place (at + 13 + length body) (meta_item_in b (meta_of r.older).sessions body) ≡ Err place) (sym r.first)
+    (subst (λ (k : Meta). with_place (at + 13 + length body) (meta_item_in (i == 0) k.sessions body) ≡ Err place) r.meta e) in
     sym r.rest ∙ ap (meta_items_at at (is_first_behind r.older) (meta_of r.older) r.older) (next_body i bodies body within is)
     ∙ item_refused at (is_first_behind r.older) (meta_of r.older) r.older body (drop (i + 1) bodies) place read
 

@@ -11,12 +11,12 @@ use Rattle.dl_journal.specs.declared.load_fault.LoadFault.{LoadFault}
 use Rattle.dl_journal.specs.declared.load_fault.LoadFault.TheVariants as load
 use Rattle.dl_journal.specs.Batches.{IsJournal}
 use Rattle.dl_journal.specs.Reading.{Breaks}
-use Rattle.dl_journal.specs.Settled.{Settled, Stands}
+use Rattle.dl_journal.specs.Settled.{IsSettled, Stands}
 use Rattle.dl_tree.specs.Trees.{Nodes}
 use Rattle.dl_session.specs.Sessions.{Known}
 use Rattle.dl_rules_nodes.specs.Items.{MetaItem, meta_item_bytes}
 use Rattle.dl_rules_nodes.specs.Metadata.{Meta, MetaNode, nothing, does, meta_of}
-use Rattle.dl_rules_nodes.specs.Reading.{placed}
+use Rattle.dl_rules_nodes.specs.Reading.{with_place}
 use Rattle.dl_rules_nodes.specs.MetaReading.{meta_item_in}
 use Rattle.dl_rules_nodes.specs.MetaOrder.{IsDue, AreInOrder, bodies_of}
 use Rattle.dl_rules_nodes.specs.Loads.{meta_items_at, loaded_meta}
@@ -44,7 +44,7 @@ meta_with tree sessions = record { tree = tree; sessions = sessions }
 -- the item of a body that ends at this place of the file was read behind others, and done
 pub record DoesItem (end : ℕ) (is_first : Bool) (body : List ℕ) (old new : Meta) : Type 0 where
   pub item : MetaItem
-  pub read : placed end (meta_item_in is_first old.sessions body) ≡ Ok item
+  pub read : with_place end (meta_item_in is_first old.sessions body) ≡ Ok item
   pub due : IsDue is_first old.sessions item
   pub spelt : body ≡ meta_item_bytes item
   pub meta : new ≡ does old item
@@ -53,7 +53,7 @@ pub record DoesItem (end : ℕ) (is_first : Bool) (body : List ℕ) (old new : M
 -- place of the file.
 abbrev pub DoesBody : ℕ → Bool → List ℕ → Meta → Meta → Result (Unit {0}) MetaFault → Type 0
 DoesBody end is_first body old new (Ok u) = DoesItem end is_first body old new
-DoesBody end is_first body old new (Err (fault.Damaged at)) = placed end (meta_item_in is_first old.sessions body) ≡ Err at
+DoesBody end is_first body old new (Err (fault.Damaged at)) = with_place end (meta_item_in is_first old.sessions body) ≡ Err at
 DoesBody end is_first body old new (Err fault.NoMemory) = Unit {0}
 DoesBody end is_first body old new (Err _) = ⊥
 
@@ -100,7 +100,7 @@ fault_of load.NoMemory = fault.NoMemory
 pub record IsFrom (v : View) (bytes : List ℕ) (s : MetaState) : Type 0 where
   pub node : MetaNode
   pub stands : StandsFor node s
-  pub settled : Settled v s.journal bytes (batches_of node)
+  pub settled : IsSettled v s.journal bytes (batches_of node)
 
 -- what loading these bytes answers
 abbrev pub AnswersLoad : View → List ℕ → Result (Option MetaState) MetaFault → Type 0

@@ -5,7 +5,7 @@ use Rattle.dl_depot.specs.declared.device_call.DeviceCall.{DeviceCall}
 use Rattle.dl_journal.specs.declared.batch.Batch.{Batch}
 use Rattle.dl_journal.specs.State.{JournalState}
 use Rattle.dl_journal.specs.Calls.{MakesCalls, store_calls}
-use Rattle.dl_journal.specs.Settled.{Settled, Stands}
+use Rattle.dl_journal.specs.Settled.{IsSettled, Stands}
 use Rattle.dl_journal.specs.Commits.{start, new_journal, batch_of, state_after, commit_calls}
 use Rattle.dl_formats.specs.declared.conf.Conf.{Conf}
 use Rattle.dl_rules_nodes.specs.Items.{Setup, meta_item_bytes}
@@ -39,7 +39,7 @@ pub record MakesJournal (old new : View) (body : List ℕ) (result : Result Jour
   pub state : IfOk result (λ j. j ≡ state_after (new_journal meta_file) body)
   pub stands : IfOk result (Stands new)
   pub settled : (was : List ℕ) → old.shown meta_file ≡ Some was
-      → IfOk result (λ j. (now : List ℕ) × Settled new j now (batch_of (new_journal meta_file) body ∷ []))
+      → IfOk result (λ j. (now : List ℕ) × IsSettled new j now (batch_of (new_journal meta_file) body ∷ []))
 
 -- what `make` does
 pub record Makes (old new : View) (conf : Conf) (result : Result MetaState MetaFault) : Type 0 where

@@ -4,7 +4,7 @@ use Rattle.std.specs.Prelude.{◌≡◌, ℕ, ◌+◌, ◌<◌, ◌⊎◌, false
 use Rattle.dl_depot.specs.View.{View}
 use Rattle.dl_journal.specs.declared.batch.Batch.{Batch}
 use Rattle.dl_journal.specs.Batches.{IsJournal}
-use Rattle.dl_journal.specs.Settled.{Settled}
+use Rattle.dl_journal.specs.Settled.{IsSettled}
 use Rattle.dl_rules_nodes.specs.Items.{MetaItem}
 use Rattle.dl_rules_nodes.specs.Metadata.{MetaNode, meta_of, meta_gate, with_item}
 use Rattle.dl_rules_nodes.specs.MetaOrder.{AreInOrder, bodies_of}
@@ -44,4 +44,4 @@ pub record StandsFor (n : MetaNode) (s : MetaState) : Type 0 where
 
 -- where the depot tells the bytes of the metadata file, they hold the node's items, and a stop leaves those bytes alone
 abbrev pub OnFile : View → MetaNode → MetaState → Type 0
-OnFile v n s = (shown : List ℕ) → v.shown meta_file ≡ Some shown → Settled v s.journal shown (batches_of n)
+OnFile v n s = (shown : List ℕ) → v.shown meta_file ≡ Some shown → IsSettled v s.journal shown (batches_of n)

@@ -4,7 +4,7 @@
 ghost use Rattle.std.specs.Prelude.{◌≡◌, ◌==◌, ◌+◌, IfOk};
 ghost use Rattle.std.specs.Int.{w8};
 ghost use Rattle.dl_fields.specs.Readers.{Reads, Gives};
-ghost use Rattle.dl_fields.specs.Codes.{coded, code_from};
+ghost use Rattle.dl_fields.specs.Codes.{value_of_code, code_from};
 ghost use Rattle.dl_session.specs.Sessions.{number_in, is_live};
 ghost use Rattle.dl_formats.specs.Reading.{between_from, conf_from};
 ghost use Rattle.dl_rules_nodes.specs.Items.{meta_code};
@@ -27,7 +27,7 @@ use std::alloc::Global;
 
 /// The kind of a code, where it may come: the configuration first, and the others later.
 fn kind_of(is_first: bool, code: u8) -> Option<Kind>
-    ensures { maybe_kind result ≡ coded meta_code (kinds_due is_first) code }
+    ensures { maybe_kind result ≡ value_of_code meta_code (kinds_due is_first) code }
 {
     if is_first {
         if code == CONF { Some(Kind::Conf) } else { None }

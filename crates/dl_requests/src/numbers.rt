@@ -1,7 +1,7 @@
 //! The numbers in names and paths.
 
 ghost use Rattle.std.specs.Prelude.{◌≡◌, ◌≤◌, length};
-ghost use Rattle.dl_rules_stream.specs.Listings.{spelled, number_behind, member_in, segment_in};
+ghost use Rattle.dl_rules_stream.specs.Listings.{digits_number, number_behind, member_in, segment_in};
 
 use dl_formats::children::{read_member, read_segment};
 use dl_formats::segment_name::SegmentName;
@@ -9,7 +9,7 @@ use dl_formats::segment_name::SegmentName;
 /// The number that at most ten digits spell.
 fn number_of(digits: &[u8]) -> u64
     requires { length digits.now ≤ 10 }
-    ensures { result ≡ spelled digits.now }
+    ensures { result ≡ digits_number digits.now }
 {
     let mut number: u64 = 0;
     for digit in digits {

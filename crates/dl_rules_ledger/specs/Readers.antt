@@ -5,7 +5,7 @@ use Rattle.dl_quorum.specs.Pieces.{covers}
 use Rattle.dl_msg.specs.declared.msg.Msg.{Msg}
 use Rattle.dl_msg.specs.declared.msg.Msg.TheVariants.{AskLac, AskEntry, LacIs, EntryIs}
 use Rattle.dl_msg.specs.declared.letters.Told.{Told}
-use Rattle.dl_rules_ledger.specs.Subjects.{Subject, answered, known_count, tell_write_set, tell_last_piece, is_about, is_about_entry}
+use Rattle.dl_rules_ledger.specs.Subjects.{Subject, has_answered, known_count, tell_write_set, tell_last_piece, is_about, is_about_entry}
 
 -- a call of a reader: it asks for the count, or for an entry, or hears a message of a bookie
 pub data ReaderCall : Type 0 where
@@ -31,7 +31,7 @@ asks_entry x entry = tell_write_set x entry (AskEntry x.tag x.ledger entry)
 
 -- how many entries can be read, where those that answered cover
 abbrev pub readable : Subject → List (ℕ × ℕ) → Option ℕ
-readable x answers = if covers x.pieces (answered answers) then Some (known_count x answers) else None
+readable x answers = if covers x.pieces (has_answered answers) then Some (known_count x answers) else None
 
 -- the count at the first moment at which those that answered cover
 abbrev pub after_count : List (ℕ × ℕ) → Option ℕ → ReaderStage

@@ -5,7 +5,7 @@ use Rattle.dl_quorum.specs.Pieces.{acks, blocks, covers}
 use Rattle.dl_msg.specs.declared.msg.Msg.{Msg}
 use Rattle.dl_msg.specs.declared.msg.Msg.TheVariants.{Copy, AskLac, AskEntry, CopyOk, LacIs, EntryIs, NoEntry}
 use Rattle.dl_msg.specs.declared.letters.Told.{Told}
-use Rattle.dl_rules_ledger.specs.Subjects.{Subject, among, answered, known_count, tell_write_set, tell_last_piece, is_about, is_about_entry}
+use Rattle.dl_rules_ledger.specs.Subjects.{Subject, among, has_answered, known_count, tell_write_set, tell_last_piece, is_about, is_about_entry}
 
 -- the greatest number of an entry
 abbrev pub greatest_entry : ℕ
@@ -35,7 +35,7 @@ reads x start entry =
 
 -- the first moment at which those that answered cover gives the start
 abbrev pub after_answer : Subject → List (ℕ × ℕ) → Move
-after_answer x answers = if covers x.pieces (answered answers) then reads x (known_count x answers) (known_count x answers) else (Fencing answers, [])
+after_answer x answers = if covers x.pieces (has_answered answers) then reads x (known_count x answers) (known_count x answers) else (Fencing answers, [])
 
 -- an entry that so many of its write set deny that the others are no ack quorum is the end
 abbrev pub after_denial : Subject → (start entry : ℕ) → List ℕ → Move

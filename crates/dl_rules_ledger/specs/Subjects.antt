@@ -44,8 +44,8 @@ abbrev pub is_about_entry : Subject → ℕ → (bookie tag ledger entry : ℕ) 
 is_about_entry x entry b tag ledger e = tag == x.tag && ledger == x.ledger && e == entry && is_in_write_set x entry b
 
 -- whether a bookie is among those that told a count
-abbrev pub answered : List (ℕ × ℕ) → ℕ → Bool
-answered answers b = list_any (λ (x : ℕ × ℕ). x.0 == b) answers
+abbrev pub has_answered : List (ℕ × ℕ) → ℕ → Bool
+has_answered answers b = list_any (λ (x : ℕ × ℕ). x.0 == b) answers
 
 -- the greatest count that was told
 abbrev pub greatest_count : List (ℕ × ℕ) → ℕ

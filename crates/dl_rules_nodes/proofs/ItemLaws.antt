@@ -22,7 +22,7 @@ use Rattle.dl_record.specs.Reading.{entry_at}
 use Rattle.dl_record.proofs.Entries.{entry_found, entry_again}
 use Rattle.dl_rules_nodes.specs.Items.{Item, AddItem, CopyItem, FenceItem, ItemKind, AnAdd, ACopy, AFence, item_code, item_kinds, item_kind}
 use Rattle.dl_rules_nodes.specs.Items.{item_rest, item_bytes, item_length, body_of, entry_in, IsItem}
-use Rattle.dl_rules_nodes.specs.Bookies.{named}
+use Rattle.dl_rules_nodes.specs.Bookies.{named_entry}
 use Rattle.dl_rules_nodes.specs.Reading.{place_in, left_at, entry_flaw, entry_from, item_rest_from, item_from, items_upto}
 use Rattle.dl_rules_nodes.specs.Laws.{LengthsAreOfBytes, ItemsAreExact, BodiesAreExact}
 
@@ -57,7 +57,7 @@ left_none size (Err f) e = absurd cc
 left_some : (size back : ℕ) (r : Result (List Stored) EntryFlaw) → left_at size r ≡ Some back → back ≤ size
 left_some size back (Ok parts) e = absurd cc
 left_some size back (Err f) e =
-    let h : size - place_in f ≡ back = ap (λ (o : Option ℕ). named o) e in omega (arith, h)
+    let h : size - place_in f ≡ back = ap (λ (o : Option ℕ). named_entry o) e in omega (arith, h)
 
 -- an entry without a fault, and as long as its field allows
 abbrev IsRead : List ℕ → Type 0

@@ -38,16 +38,16 @@ abbrev pub items_of : List Waiting → List Item
 items_of queue = flat_map (λ (w : Waiting). option_to_list w.item) queue
 
 -- the queued items
-abbrev pub queued : Bookie → List Item
-queued b = items_of b.queue
+abbrev pub queued_items : Bookie → List Item
+queued_items b = items_of b.queue
 
 -- the durable items, and then the queued ones
 abbrev pub all_items : Bookie → List Item
-all_items b = durable b ++ queued b
+all_items b = durable b ++ queued_items b
 
 -- whether a fence of the ledger is durable
-abbrev pub fenced : Bookie → ℕ → Bool
-fenced b l = list_any (is_fence l) (durable b)
+abbrev pub is_fenced : Bookie → ℕ → Bool
+is_fenced b l = list_any (is_fence l) (durable b)
 
 -- ---- the table
 
@@ -59,36 +59,36 @@ pub data Taken : Type 0 where
 
 -- the greatest count that is known of a ledger
 abbrev pub lac_of : Bookie → ℕ → ℕ → Msg
-lac_of b tag l = LacIs tag l (fenced b l) (greatest l (durable b))
+lac_of b tag l = LacIs tag l (is_fenced b l) (greatest l (durable b))
 
 -- an entry of a writer: the first row that fits
 abbrev pub add_row : Bookie → (ledger entry count : ℕ) → List ℕ → Taken
 add_row b l e n bytes =
     if list_any (is_add l e) (durable b) then Answers (AddOk l e)
-    else (if fenced b l then Answers (AddFenced l e)
-    else (if list_any (is_add l e) (queued b) then Queues (AddOk l e) None
-    else (if list_any (is_fence l) (queued b) then Queues (AddFenced l e) None
+    else (if is_fenced b l then Answers (AddFenced l e)
+    else (if list_any (is_add l e) (queued_items b) then Queues (AddOk l e) None
+    else (if list_any (is_fence l) (queued_items b) then Queues (AddFenced l e) None
     else Queues (AddOk l e) (Some (AddItem l e n bytes)))))
 
 -- an entry of a recovery, which passes a fence
 abbrev pub copy_row : Bookie → (tag ledger entry count : ℕ) → List ℕ → Taken
 copy_row b t l e n bytes =
     if list_any (is_entry l e) (durable b) then Answers (CopyOk t l e)
-    else (if list_any (is_entry l e) (queued b) then Queues (CopyOk t l e) None
+    else (if list_any (is_entry l e) (queued_items b) then Queues (CopyOk t l e) None
     else Queues (CopyOk t l e) (Some (CopyItem l e n bytes)))
 
 -- a fence; the count that is told is that after the batch that the reply waits for
 abbrev pub fence_row : Bookie → (tag ledger : ℕ) → Taken
 fence_row b t l =
-    if fenced b l then Answers (lac_of b t l)
-    else (if list_any (is_fence l) (queued b) then Queues (LacIs t l true 0) None
+    if is_fenced b l then Answers (lac_of b t l)
+    else (if list_any (is_fence l) (queued_items b) then Queues (LacIs t l true 0) None
     else Queues (LacIs t l true 0) (Some (FenceItem l)))
 
 -- ---- room
 
 -- the pages of the pool that no queued item needs
 abbrev pub spare_pages : Bookie → ℕ
-spare_pages b = pool_pages - sum_by (λ x. pages_of (item_length x)) (queued b)
+spare_pages b = pool_pages - sum_by (λ x. pages_of (item_length x)) (queued_items b)
 
 -- the pages that an item needs, where there is one
 abbrev pub pages_for : Option Item → ℕ
@@ -120,18 +120,18 @@ lacking b l entry item =
     else (if nat_le most_entries (entries_count (all_items b)) && names_new_entry b l entry then Some Index
     else (if nat_le most_ledgers (ledgers_count (all_items b)) && names_new_ledger b l then Some Ledgers
     else (if nat_le most_waiting (length b.queue) then Some Queue
-    else (if nat_lt (journal_spare b) (items_length (queued b ++ option_to_list item)) then Some Journal
+    else (if nat_lt (journal_spare b) (items_length (queued_items b ++ option_to_list item)) then Some Journal
     else None))))
 
 -- the entry that a Full names: 0 for a fence
-abbrev pub named : Option ℕ → ℕ
-named None = 0
-named (Some e) = e
+abbrev pub named_entry : Option ℕ → ℕ
+named_entry None = 0
+named_entry (Some e) = e
 
 -- a reply waits, unless something lacks
 abbrev pub if_room : ℕ → Option ℕ → Msg → Option Item → Option Resource → Taken
 if_room l entry reply item None = Queues reply item
-if_room l entry reply item (Some what) = Answers (Full what l (named entry))
+if_room l entry reply item (Some what) = Answers (Full what l (named_entry entry))
 
 -- a row that queues is a Full where there is no room
 abbrev pub with_room : Bookie → ℕ → Option ℕ → Taken → Taken
@@ -140,11 +140,11 @@ with_room b l entry (Answers reply) = Answers reply
 with_room b l entry (Queues reply item) = if_room l entry reply item (lacking b l entry item)
 
 -- what a message does
-unfoldable pub taken : Bookie → Msg → Taken
-taken b (Add l e n bytes) = with_room b l (Some e) (add_row b l e n bytes)
-taken b (Copy t l e n bytes) = with_room b l (Some e) (copy_row b t l e n bytes)
-taken b (AskLac t l true) = with_room b l None (fence_row b t l)
-taken b _ = Looks
+unfoldable pub table_row : Bookie → Msg → Taken
+table_row b (Add l e n bytes) = with_room b l (Some e) (add_row b l e n bytes)
+table_row b (Copy t l e n bytes) = with_room b l (Some e) (copy_row b t l e n bytes)
+table_row b (AskLac t l true) = with_room b l None (fence_row b t l)
+table_row b _ = Looks
 
 -- a reply more that waits
 abbrev pub waits : Bookie → Waiting → Bookie
@@ -160,17 +160,17 @@ after b client session _ = b
 -- the answer to an asked entry, by the first durable item that has it
 abbrev pub entry_answer : Bookie → (tag ledger entry : ℕ) → Option Item → Msg
 entry_answer b tag l e (Some x) = EntryIs tag l e (entry_in x)
-entry_answer b tag l e None = NoEntry tag l e (fenced b l)
+entry_answer b tag l e None = NoEntry tag l e (is_fenced b l)
 
 -- the answer from the durable list
-unfoldable pub looked : Bookie → Msg → Msg
-looked b (AskLac t l f) = lac_of b t l
-looked b (AskEntry t l e) = entry_answer b t l e (find (is_entry l e) (durable b))
-looked b m = m
+unfoldable pub look_answer : Bookie → Msg → Msg
+look_answer b (AskLac t l f) = lac_of b t l
+look_answer b (AskEntry t l e) = entry_answer b t l e (find (is_entry l e) (durable b))
+look_answer b m = m
 
 -- the answer that leaves at once, where one does
 abbrev pub answer_now : Bookie → Msg → Taken → Option Msg
-answer_now b m Looks = Some (looked b m)
+answer_now b m Looks = Some (look_answer b m)
 answer_now b m (Answers reply) = Some reply
 answer_now b m (Queues reply item) = None
 
@@ -197,13 +197,13 @@ with_batch batches [] = batches
 with_batch batches (x ∷ xs) = batches ++ (x ∷ xs) ∷ []
 
 -- the node after a commit
-unfoldable pub committed : Bookie → Bookie
-committed b = record b { batches = with_batch b.batches (queued b); queue = [] }
+unfoldable pub after_commit : Bookie → Bookie
+after_commit b = record b { batches = with_batch b.batches (queued_items b); queue = [] }
 
 -- the node after a commit that was stopped, with its batch or without
-abbrev pub stopped : Bookie → Bool → Bookie
-stopped b kept = record b { batches = if kept then with_batch b.batches (queued b) else b.batches; queue = [] }
+abbrev pub after_stop : Bookie → Bool → Bookie
+after_stop b kept = record b { batches = if kept then with_batch b.batches (queued_items b) else b.batches; queue = [] }
 
 -- the node after its process ended: what was not durable is gone
-abbrev pub emptied : Bookie → Bookie
-emptied b = stopped b false
+abbrev pub without_queue : Bookie → Bookie
+without_queue b = after_stop b false

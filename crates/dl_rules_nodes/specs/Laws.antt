@@ -6,7 +6,7 @@ use Rattle.dl_codec.specs.Fields.{IsBytes}
 use Rattle.dl_fields.specs.Readers.{Exact}
 use Rattle.dl_session.specs.Sessions.{Known}
 use Rattle.dl_rules_nodes.specs.Items.{Item, item_bytes, item_length, items_length, body_of, IsItem, MetaItem, meta_item_bytes}
-use Rattle.dl_rules_nodes.specs.Bookies.{Bookie, durable, queued, all_items, fenced, taken, after, committed, stopped}
+use Rattle.dl_rules_nodes.specs.Bookies.{Bookie, durable, queued_items, all_items, is_fenced, table_row, after, after_commit, after_stop}
 use Rattle.dl_rules_nodes.specs.Reading.{item_from, items_in}
 use Rattle.dl_rules_nodes.specs.Metadata.{MetaNode}
 use Rattle.dl_rules_nodes.specs.MetaReading.{meta_item_from}
@@ -16,9 +16,9 @@ use Rattle.dl_rules_nodes.specs.Loads.{loaded_meta}
 -- A message changes no durable item; a commit puts the queued items behind them, and so does one that was stopped, or it leaves
 -- them as they are.
 pub record DurableItemsGrow (b : Bookie) : Type 0 where
-  pub message : (client session : ℕ) (m : Msg) → durable (after b client session (taken b m)) ≡ durable b
-  pub commit : durable (committed b) ≡ durable b ++ queued b
-  pub stop : (kept : Bool) → durable (stopped b kept) ≡ (cond kept (durable b ++ queued b) (durable b))
+  pub message : (client session : ℕ) (m : Msg) → durable (after b client session (table_row b m)) ≡ durable b
+  pub commit : durable (after_commit b) ≡ durable b ++ queued_items b
+  pub stop : (kept : Bool) → durable (after_stop b kept) ≡ (cond kept (durable b ++ queued_items b) (durable b))
 
 -- the durable items of each node only grow
 abbrev pub DurableItemsOnlyGrow : Type 0
@@ -26,11 +26,11 @@ DurableItemsOnlyGrow = (b : Bookie) → DurableItemsGrow b
 
 -- a commit moves items, and makes none
 abbrev pub CommitsMoveItems : Type 0
-CommitsMoveItems = (b : Bookie) → all_items (committed b) ≡ all_items b
+CommitsMoveItems = (b : Bookie) → all_items (after_commit b) ≡ all_items b
 
 -- a fence that is durable stays
 abbrev pub FencesStay : Type 0
-FencesStay = (b : Bookie) (ledger : ℕ) → fenced b ledger ≡ true → fenced (committed b) ledger ≡ true
+FencesStay = (b : Bookie) (ledger : ℕ) → is_fenced b ledger ≡ true → is_fenced (after_commit b) ledger ≡ true
 
 -- the lengths of items are those of their bytes
 pub record LengthsAreOfBytes : Type 0 where

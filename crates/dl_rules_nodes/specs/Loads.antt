@@ -7,7 +7,7 @@ use Rattle.dl_rules_nodes.specs.Items.{Item, MetaItem}
 use Rattle.dl_rules_nodes.specs.Counts.{entries_count, ledgers_count}
 use Rattle.dl_rules_nodes.specs.Bookies.{Bookie}
 use Rattle.dl_rules_nodes.specs.Metadata.{Meta, MetaNode, nothing, does}
-use Rattle.dl_rules_nodes.specs.Reading.{batch_at, placed}
+use Rattle.dl_rules_nodes.specs.Reading.{batch_at, with_place}
 use Rattle.dl_rules_nodes.specs.MetaReading.{meta_item_in}
 
 infixl 10 ◌>>=◌
@@ -51,7 +51,7 @@ loaded_bookie first bodies = or_damaged (batches_at 8 bodies) >>= λ batches. ta
 unfoldable pub meta_items_at : ℕ → Bool → Meta → List MetaItem → List (List ℕ) → Result (List MetaItem) ℕ
 meta_items_at gate is_first m older [] = Ok older
 meta_items_at gate is_first m older (body ∷ bodies) =
-    placed (gate + 13 + length body) (meta_item_in is_first m.sessions body) >>= λ x.
+    with_place (gate + 13 + length body) (meta_item_in is_first m.sessions body) >>= λ x.
     meta_items_at (gate + 13 + length body) false (does m x) (x ∷ older) bodies
 
 -- the metadata node of a journal with these bodies, the first of which has this number; or the place of the first fault

@@ -74,13 +74,13 @@ left_of (Bad left) = left
 left_of (Long left) = left
 
 -- a fault with its place in a file, where the bytes that were read end at this place of it
-abbrev pub placed : {A : Type 0} → ℕ → Result A Fault → Result A ℕ
-placed end (Ok x) = Ok x
-placed end (Err fault) = Err (end - left_of fault)
+abbrev pub with_place : {A : Type 0} → ℕ → Result A Fault → Result A ℕ
+with_place end (Ok x) = Ok x
+with_place end (Err fault) = Err (end - left_of fault)
 
 -- The items of a batch whose gate stands at this place of a file, or the place of the first fault. The body stands 13 bytes
 -- behind the gate; one that is empty or too long is broken at its length, which stands 9 bytes behind it.
 abbrev pub batch_at : ℕ → List ℕ → Result (List Item) ℕ
 batch_at gate body =
     if length body == 0 || nat_lt longest_batch (length body) then Err (gate + 9)
-    else placed (gate + 13 + length body) (items_in body)
+    else with_place (gate + 13 + length body) (items_in body)

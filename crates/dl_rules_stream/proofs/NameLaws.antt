@@ -13,15 +13,15 @@ use Rattle.dl_formats.specs.declared.segment_name.SegmentName.TheVariants.{Progr
 use Rattle.dl_fields.specs.Digits.{digits, HasTenDigits}
 use Rattle.dl_formats.specs.Children.{segment_name, IsSegmentName, member_name}
 use Rattle.dl_fields.proofs.DigitLemmas.{length-digits, digit_read}
-use Rattle.dl_rules_stream.specs.Listings.{is_digit, spelled, ten_digits_in, segment_by, segment_in, member_in}
+use Rattle.dl_rules_stream.specs.Listings.{is_digit, digits_number, ten_digits_in, segment_by, segment_in, member_in}
 use Rattle.dl_rules_stream.specs.Laws.{NamesAreRead}
 
 -- one digit more
-spelled_more : (xs : List ℕ) (c : ℕ) → spelled (xs ++ c ∷ []) ≡ 10 * spelled xs + (c - 48)
+spelled_more : (xs : List ℕ) (c : ℕ) → digits_number (xs ++ c ∷ []) ≡ 10 * digits_number xs + (c - 48)
 spelled_more xs c = fold-append (λ n c. 10 * n + (c - 48)) 0 xs (c ∷ [])
 
 -- digits spell their number
-spelled_digits : (n k : ℕ) → k < 10 ^ n → spelled (digits n k) ≡ k
+spelled_digits : (n k : ℕ) → k < 10 ^ n → digits_number (digits n k) ≡ k
 spelled_digits zero k h = omega (arith, h)
 spelled_digits (suc n) k h =
     let below : k / 10 < 10 ^ n = omega (arith, h, pow-suc 10 n) in
@@ -46,7 +46,7 @@ digits_are (suc n) k =
     one d h = rw (is_digit_of d h) refl
 
 -- ten digits that spell a number are read as it
-ten_of : (ds : List ℕ) (k : ℕ) → length ds ≡ 10 → list_all is_digit ds ≡ true → spelled ds ≡ k → ten_digits_in ds ≡ Some k
+ten_of : (ds : List ℕ) (k : ℕ) → length ds ≡ 10 → list_all is_digit ds ≡ true → digits_number ds ≡ k → ten_digits_in ds ≡ Some k
 ten_of ds k l a s = rw l (rw a (ap Some s))
 
 -- the ten digits of a number are read as it
@@ -81,8 +81,8 @@ digit_of c h =
 
 -- What the first digits spell.
 record Prefix (n : ℕ) (ds : List ℕ) : Type 0 where
-  pub below : spelled (take n ds) < 10 ^ n
-  pub spelt : digits n (spelled (take n ds)) ≡ take n ds
+  pub below : digits_number (take n ds) < 10 ^ n
+  pub spelt : digits n (digits_number (take n ds)) ≡ take n ds
 
 -- the first of some digits spell a number of which they are the digits
 prefix_of : (n : ℕ) (ds : List ℕ) → n ≤ length ds → list_all is_digit ds ≡ true → Prefix n ds
@@ -92,9 +92,9 @@ prefix_of (suc n) ds le a =
     let p = prefix_of n ds (omega (arith, le)) a in
     let d = digit_of (get_or ds n 0) (digit_at ds n a room) in
     let more : take (n + 1) ds ≡ take n ds ++ get_or ds n 0 ∷ [] = take_more ds n 0 room in
-    let value : spelled (take (n + 1) ds) ≡ spelled (take n ds) * 10 + d.value =
-    ap spelled more ∙ spelled_more (take n ds) (get_or ds n 0) ∙ one_more (spelled (take n ds)) (get_or ds n 0) d.value d.is in
-    let r = digit_read n (spelled (take n ds)) d.value ds room d.is d.below p.below p.spelt in
+    let value : digits_number (take (n + 1) ds) ≡ digits_number (take n ds) * 10 + d.value =
+    ap digits_number more ∙ spelled_more (take n ds) (get_or ds n 0) ∙ one_more (digits_number (take n ds)) (get_or ds n 0) d.value d.is in
+    let r = digit_read n (digits_number (take n ds)) d.value ds room d.is d.below p.below p.spelt in
     subst (λ m. Prefix m ds) (add-one n) (record { below = subst (λ v. v < 10 ^ (n + 1)) (sym value) r.0; spelt = ap (digits (n + 1)) value ∙ r.1 })
   where
     one_more : (k c v : ℕ) → c ≡ 48 + v → 10 * k + (c - 48) ≡ k * 10 + v
@@ -113,19 +113,19 @@ IsTen ds k = HasTenDigits k × (ds ≡ digits 10 k)
 ten_found : (ds : List ℕ) (k : ℕ) → ten_digits_in ds ≡ Some k → IsTen ds k
 ten_found ds k e = go (eqb (length ds) 10 && list_all is_digit ds) refl e
   where
-    whole : length ds ≡ 10 → list_all is_digit ds ≡ true → IsTen ds (spelled ds)
+    whole : length ds ≡ 10 → list_all is_digit ds ≡ true → IsTen ds (digits_number ds)
     whole l a =
         let p = prefix_of (length ds) ds (let le : length ds ≤ length ds = omega arith in le) a in
         let all : take (length ds) ds ≡ ds = take-length ds in
-        let below : spelled ds < 10 ^ length ds = subst (λ (t : List ℕ). spelled t < 10 ^ length ds) all p.below in
-        let spelt : digits (length ds) (spelled ds) ≡ ds = subst (λ (t : List ℕ). digits (length ds) (spelled t) ≡ t) all p.spelt in
-        (subst (λ n. spelled ds < 10 ^ n) l below, sym spelt ∙ ap (λ n. digits n (spelled ds)) l)
+        let below : digits_number ds < 10 ^ length ds = subst (λ (t : List ℕ). digits_number t < 10 ^ length ds) all p.below in
+        let spelt : digits (length ds) (digits_number ds) ≡ ds = subst (λ (t : List ℕ). digits (length ds) (digits_number t) ≡ t) all p.spelt in
+        (subst (λ n. digits_number ds < 10 ^ n) l below, sym spelt ∙ ap (λ n. digits n (digits_number ds)) l)
 
-    go : (t : Bool) → (eqb (length ds) 10 && list_all is_digit ds) ≡ t → cond t (Some (spelled ds)) None ≡ Some k → IsTen ds k
+    go : (t : Bool) → (eqb (length ds) 10 && list_all is_digit ds) ≡ t → cond t (Some (digits_number ds)) None ≡ Some k → IsTen ds k
     go true t h =
         let b = both_of (eqb (length ds) 10) (list_all is_digit ds) t in
         let w = whole (eqb-true (length ds) 10 b.0) b.1 in
-        let same : spelled ds ≡ k = ap (λ (o : Option ℕ). number_in o) h in
+        let same : digits_number ds ≡ k = ap (λ (o : Option ℕ). number_in o) h in
         subst (IsTen ds) same w
     go false t h = absurd cc
 

@@ -27,12 +27,12 @@ abbrev pub is_digit : ℕ → Bool
 is_digit c = nat_le 48 c && nat_le c 57
 
 -- the number that digits spell
-abbrev pub spelled : List ℕ → ℕ
-spelled digits = fold (λ n c. 10 * n + (c - 48)) 0 digits
+abbrev pub digits_number : List ℕ → ℕ
+digits_number digits = fold (λ n c. 10 * n + (c - 48)) 0 digits
 
 -- the number that exactly ten digits spell
 abbrev pub ten_digits_in : List ℕ → Option ℕ
-ten_digits_in digits = if length digits == 10 && list_all is_digit digits then Some (spelled digits) else None
+ten_digits_in digits = if length digits == 10 && list_all is_digit digits then Some (digits_number digits) else None
 
 -- the segment of a letter and a number; none has the number 0
 abbrev pub segment_by : ℕ → Option ℕ → Option SegmentName
@@ -54,7 +54,7 @@ member_in (letter ∷ dash ∷ digits) = if letter == 109 && dash == 45 then ten
 
 -- the number that the last ten bytes of a path spell
 abbrev pub number_behind : List ℕ → ℕ
-number_behind path = spelled (drop (length path - 10) path)
+number_behind path = digits_number (drop (length path - 10) path)
 
 -- the number of a segment
 abbrev pub number_of : SegmentName → ℕ
@@ -62,14 +62,14 @@ number_of (Progress k) = k
 number_of (Completed k) = k
 
 -- a segment behind those whose numbers are not above its own
-abbrev pub placed : SegmentName → List SegmentName → List SegmentName
-placed x [] = x ∷ []
-placed x (y ∷ ys) = if nat_lt (number_of x) (number_of y) then x ∷ y ∷ ys else y ∷ placed x ys
+abbrev pub with_segment : SegmentName → List SegmentName → List SegmentName
+with_segment x [] = x ∷ []
+with_segment x (y ∷ ys) = if nat_lt (number_of x) (number_of y) then x ∷ y ∷ ys else y ∷ with_segment x ys
 
 -- segments by their numbers, behind others that stand so
 abbrev pub sorted_into : List SegmentName → List SegmentName → List SegmentName
 sorted_into ys [] = ys
-sorted_into ys (x ∷ xs) = sorted_into (placed x ys) xs
+sorted_into ys (x ∷ xs) = sorted_into (with_segment x ys) xs
 
 -- the segments that are listed, by their numbers
 unfoldable pub segments_of : List (List ℕ) → List SegmentName

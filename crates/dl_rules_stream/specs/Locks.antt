@@ -28,8 +28,8 @@ least_of n [] = n
 least_of n (name ∷ names) = least_of (least_with n (member_in name)) names
 
 -- another member with a lesser number has the lock
-abbrev pub settled : List ℕ → ℕ → LockStage × Next (List ℕ)
-settled member least =
+abbrev pub lock_or_leave : List ℕ → ℕ → LockStage × Next (List ℕ)
+lock_or_leave member least =
     if nat_lt least (number_behind member) then (LeavingLock member least, Ask (LeaveLock member)) else (LockDone, Done member)
 
 -- what it begins with
@@ -41,7 +41,7 @@ unfoldable pub lock_answers : List ℕ → LockStage → MetaAnswer → LockStag
 lock_answers s MakingMember (answer.One (Made path)) = (ListingMembers path, Ask (ListMembers s))
 lock_answers s MakingMember (answer.Failed place NoNode) = (LockDone, Refused refused.NoStream)
 lock_answers s MakingMember (answer.Failed place w) = (LockDone, Refused (no_way_on (MakeMember s) place w))
-lock_answers s (ListingMembers member) (answer.One (Names names)) = settled member (least_of (number_behind member) names)
+lock_answers s (ListingMembers member) (answer.One (Names names)) = lock_or_leave member (least_of (number_behind member) names)
 lock_answers s (ListingMembers member) (answer.Failed place w) = (LockDone, Refused (no_way_on (ListMembers s) place w))
 lock_answers s (LeavingLock member least) (answer.Failed place w) = (LockDone, Refused (no_way_on (LeaveLock member) place w))
 lock_answers s (LeavingLock member least) a = (LockDone, Refused (refused.Held least))

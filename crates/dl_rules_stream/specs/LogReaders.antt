@@ -231,13 +231,13 @@ behind p (row ∷ []) = record p { cursor = after_place row.place }
 behind p (row ∷ other ∷ more) = behind p (other ∷ more)
 
 -- the position moves behind the rows that a read gives
-abbrev pub moved : Position → Next (List ReadRow) → Position
-moved p (Done rows) = behind p rows
-moved p next = p
+abbrev pub position_behind : Position → Next (List ReadRow) → Position
+position_behind p (Done rows) = behind p rows
+position_behind p next = p
 
 -- the reader after a move of its read
 abbrev pub after_read : ReaderNow → ReadMove → ReaderNow
-after_read n move = record { position = moved n.position move.1; stage = move.0 }
+after_read n move = record { position = position_behind n.position move.1; stage = move.0 }
 
 -- what a call does
 abbrev pub reader_move : ReaderArgs → ReaderNow → LogReaderCall → ReadMove

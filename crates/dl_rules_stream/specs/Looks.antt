@@ -27,8 +27,8 @@ pub data LookStage : Type 0 where
   LookDone : LookStage
 
 -- the values of the nodes that were read
-abbrev pub looked : List ℕ → List (List ℕ) → List ℕ → ℕ → List ℕ → ℕ → Result Looked Refusal
-looked s names maxseq version alloc alloc_version =
+abbrev pub look_values : List ℕ → List (List ℕ) → List ℕ → ℕ → List ℕ → ℕ → Result Looked Refusal
+look_values s names maxseq version alloc alloc_version =
     maxseq_of s maxseq >>= λ m. alloc_of s alloc >>= λ old.
     Ok (record { segments = segments_of names; maxseq = m; version = version; old = old; alloc_version = alloc_version })
 
@@ -39,7 +39,7 @@ look_first s = (Looking, Ask (Look s))
 -- what it does at an answer
 unfoldable pub look_answers : List ℕ → LookStage → MetaAnswer → LookStage × Next Looked
 look_answers s Looking (answer.Many (Names names ∷ Bytes maxseq v ∷ Bytes alloc w ∷ [])) =
-    or_refused LookDone (λ x. (LookDone, Done x)) (looked s names maxseq v alloc w)
+    or_refused LookDone (λ x. (LookDone, Done x)) (look_values s names maxseq v alloc w)
 look_answers s Looking (answer.Failed zero NoNode) = (LookDone, Refused refused.NoStream)
 look_answers s Looking (answer.Failed place w) = (LookDone, Refused (no_way_on (Look s) place w))
 look_answers s stage a = (stage, Wait)

@@ -135,13 +135,13 @@ lock_goes x move = within Locking OpenDone (looks x) move
 -- ---- the whole
 
 -- the writer that begins, where `maxseq` has this version
-abbrev pub opened : Beginning → ℕ → Opened
-opened b version = record { member = b.member; segment = b.segment; ledger = b.ledger; last = b.last; version = version }
+abbrev pub opened_writer : Beginning → ℕ → Opened
+opened_writer b version = record { member = b.member; segment = b.segment; ledger = b.ledger; last = b.last; version = version }
 
 -- what the start of the segment answered
 abbrev pub start_answers : Beginning → MetaAnswer → OpenStage × Next Opened
 start_answers b (answer.Failed place w) = (OpenDone, Refused (no_way_on (StartSegment b) place w))
-start_answers b (answer.Many answers) = (OpenDone, Done (opened b (maxseq_version_in answers)))
+start_answers b (answer.Many answers) = (OpenDone, Done (opened_writer b (maxseq_version_in answers)))
 start_answers b a = (Starting b, Wait)
 
 -- what it begins with

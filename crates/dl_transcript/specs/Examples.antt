@@ -7,12 +7,12 @@ use Rattle.dl_types.specs.declared.refusal.Refusal.TheVariants as refusal
 use Rattle.dl_types.specs.Places.{place, first_place}
 use Rattle.dl_transcript.specs.declared.event.Event.{Event}
 use Rattle.dl_transcript.specs.declared.event.Event.TheVariants.{Took, Grow, Ack, Committed, Closed, Recovered, Point, OpenedAt, OpenedFrom, Reading, Rows, Refused}
-use Rattle.dl_transcript.specs.Lines.{numbered}
+use Rattle.dl_transcript.specs.Lines.{at_line}
 use Rattle.dl_transcript.specs.Legal.{fault_of}
 
 -- the first fault of these events, all on one line
 abbrev pub fault_among : List Event → Option ℕ
-fault_among events = fault_of (numbered 1 events)
+fault_among events = fault_of (at_line 1 events)
 
 -- one stream
 abbrev pub stream_s : List ℕ

@@ -108,8 +108,8 @@ abbrev pub print_all : ℕ → List Event → List ℕ
 print_all line events = flat_map (print_event line) events
 
 -- the events of one line of the schedule, with its number
-abbrev pub numbered : ℕ → List Event → List (ℕ × Event)
-numbered line events = map (λ e. (line, e)) events
+abbrev pub at_line : ℕ → List Event → List (ℕ × Event)
+at_line line events = map (λ e. (line, e)) events
 
 -- a whole transcript
 abbrev pub print_transcript : List (ℕ × Event) → List ℕ

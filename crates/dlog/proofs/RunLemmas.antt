@@ -8,7 +8,7 @@ use Rattle.dl_types.specs.declared.limit.LimitName.TheVariants.{Lines, Schedule 
 use Rattle.dl_schedule.specs.declared.step.Step.{Step}
 use Rattle.dl_schedule.specs.Faults.{parsed_early}
 use Rattle.dl_transcript.specs.declared.event.Event.{Event}
-use Rattle.dl_transcript.specs.Lines.{print_event, print_all, print_transcript, numbered}
+use Rattle.dl_transcript.specs.Lines.{print_event, print_all, print_transcript, at_line}
 use Rattle.dlog.specs.declared.ended.Ended.{Ended}
 use Rattle.dlog.specs.declared.ended.Ended.TheVariants.{Done, BadLine, Limit}
 use Rattle.dl_text.specs.TextLines.{lines_of}
@@ -23,15 +23,15 @@ use Rattle.dlog.proofs.MachineLemmas.{one_within}
 -- printing
 
 -- the events of one line are printed one after another
-print_numbered : (line : ℕ) (events : List Event) → print_transcript (numbered line events) ≡ print_all line events
+print_numbered : (line : ℕ) (events : List Event) → print_transcript (at_line line events) ≡ print_all line events
 print_numbered line [] = refl
 print_numbered line (e ∷ events) = ap (λ (t : List ℕ). print_event line e ++ t) (print_numbered line events)
 
 -- the events of a line, and those of later ones
 print_more : (line : ℕ) (events : List Event) (later : List (ℕ × Event))
-    → print_transcript (numbered line events ++ later) ≡ print_all line events ++ print_transcript later
+    → print_transcript (at_line line events ++ later) ≡ print_all line events ++ print_transcript later
 print_more line events later =
-    flat_map-append (λ (x : ℕ × Event). print_event x.0 x.1) (numbered line events) later
+    flat_map-append (λ (x : ℕ × Event). print_event x.0 x.1) (at_line line events) later
     ∙ ap (λ (t : List ℕ). t ++ print_transcript later) (print_numbered line events)
 
 -- one line of a schedule

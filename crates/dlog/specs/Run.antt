@@ -4,7 +4,7 @@ use Rattle.dl_types.specs.declared.limit.LimitName.TheVariants.{Lines, Schedule 
 use Rattle.dl_schedule.specs.declared.step.Step.{Step}
 use Rattle.dl_schedule.specs.Faults.{parsed_early}
 use Rattle.dl_transcript.specs.declared.event.Event.{Event}
-use Rattle.dl_transcript.specs.Lines.{numbered, print_transcript}
+use Rattle.dl_transcript.specs.Lines.{at_line, print_transcript}
 use Rattle.dlog.specs.declared.ended.Ended.{Ended}
 use Rattle.dlog.specs.declared.ended.Ended.TheVariants.{Done, BadLine, Limit}
 use Rattle.dl_text.specs.TextLines.{lines_of}
@@ -48,7 +48,7 @@ schedule input = schedule_from 0 0 (lines_of input)
 -- what the machine shows for these steps behind so many lines, each event with the number of its line
 unfoldable pub shown_from : State → ℕ → List Step → List (ℕ × Event)
 shown_from s n [] = []
-shown_from s n (step ∷ steps) = numbered (n + 1) (one s step).1 ++ shown_from (one s step).0 (n + 1) steps
+shown_from s n (step ∷ steps) = at_line (n + 1) (one s step).1 ++ shown_from (one s step).0 (n + 1) steps
 
 -- what the machine shows for these steps from its start on
 abbrev pub transcript : List Step → List (ℕ × Event)
