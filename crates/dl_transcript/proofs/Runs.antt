@@ -1,5 +1,6 @@
 -- Transcripts piece by piece.
-use Rattle.std.proofs.Common.{◌≡◌, ℕ, ◌+◌, ◌≤◌, Bool, true, false, cond, ◌&&◌, nat_le, List, [], ◌∷◌, ◌++◌, length, map, Some, None, sym, ap, ◌∙◌, le-leb, le_refl, arith, add-zero}
+use Rattle.std.proofs.Common.{◌≡◌, ℕ, ◌+◌, ◌≤◌, Bool, true, false, cond, ◌&&◌, nat_le, List, [], ◌∷◌, ◌++◌, length, map, Some, None, sym, ap, ◌∙◌, le-leb}
+use Rattle.std.proofs.Common.{le_refl, arith, add-zero}
 use Rattle.std.proofs.lemmas.Bool.{and_from}
 use Rattle.dl_transcript.specs.declared.event.Event.{Event}
 use Rattle.dl_transcript.specs.Legal.{History, keeps, sees, first_fault, history_after, last_line}
