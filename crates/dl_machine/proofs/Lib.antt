@@ -4,3 +4,4 @@ pub mod Movements
 pub mod StayLaws
 pub mod Settlings
 pub mod SessionLaws
+pub mod RangeLaws

@@ -1,6 +1,7 @@
 //! What holds of every run of the machine: laws on its definitions, with no code.
 
 ghost use Rattle.dl_machine.specs.Laws.{RunsAreFolds, FailuresAside, LettersStay, DurableItemsStay, SettlingEndsQuiet, SessionsAreGiven};
+ghost use Rattle.dl_machine.specs.RangeLaws.{EventsFitTheirLines};
 
 /// A run is the row of the atomic steps of its lines: it ends in their last state, and shows their events.
 pub fn runs_are_folds()
@@ -31,4 +32,9 @@ pub fn settling_ends_quiet()
 /// Each client that has joined is in a session that the metadata node gave.
 pub fn sessions_are_given()
     ensures { SessionsAreGiven }
+{}
+
+/// The values of each event of a run are such as its line takes, as far as they come from lines of the schedule.
+pub fn events_fit_their_lines()
+    ensures { EventsFitTheirLines }
 {}

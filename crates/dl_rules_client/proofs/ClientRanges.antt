@@ -1,0 +1,181 @@
+-- The ranges of what a client keeps and shows: its order under way, its writer, its reader, and its events.
+use Rattle.std.proofs.Common.{ℕ, ◌+◌, ◌*◌, ◌≤◌, Bool, true, false, List, Option, Some, None}
+use Rattle.std.proofs.Common.{arith}
+use Rattle.std.specs.List.{AllByRecursion}
+use Rattle.dl_types.specs.declared.refusal.Refusal.{Refusal}
+use Rattle.dl_types.specs.declared.start.Start.{Start}
+use Rattle.dl_types.specs.declared.start.Start.TheVariants as start
+use Rattle.dl_text.specs.NameFields.{IsName}
+use Rattle.dl_text.specs.PlaceFields.{IsPlaceFrom}
+use Rattle.dl_msg.specs.declared.letter.Letter.{Letter}
+use Rattle.dl_schedule.specs.StepLines.{IsClient, IsTxid}
+use Rattle.dl_transcript.specs.declared.event.Event.{Event}
+use Rattle.dl_transcript.specs.Ranges.{IsU64}
+use Rattle.dl_rules_stream.specs.Orders.{Next, Wait, Ask, Tell, Done, Refused}
+use Rattle.dl_rules_client.specs.Acts.{ClientArgs, SentEntry, Acts, no_acts, with_letters, with_event, shows}
+use Rattle.dl_rules_client.specs.Views.{Doing, Makes, Removes, Opens, Recovers, Commits, Confirms, Closes, Seeks, Reads, Truncates, Purges, Order}
+use Rattle.dl_rules_client.specs.Views.{WriterView, ReaderView, ClientNow, ClientMove, stays, open_args, log_now, new_client}
+use Rattle.dl_rules_client.specs.Moves.{refusal_event, refuses, is_close, writer_behind, without_order, ends_with, with_order, waits, goes_on}
+use Rattle.dl_rules_stream.specs.Opens.{open_stage}
+use Rattle.dl_rules_client.specs.EventRanges.{FitsItsLine, set_most}
+use Rattle.dl_rules_client.proofs.RangeLists.{AllSome, all-last}
+use Rattle.dl_rules_client.proofs.LogRanges.{IsRow, LogFits, log_more}
+use Rattle.dl_rules_client.proofs.NextRanges.{NextFits}
+use Rattle.dl_rules_client.proofs.OpenRanges.{OpenStageFits}
+
+-- ---- what a client keeps
+
+-- where a reader begins
+abbrev pub StartFits : Start → Type 0
+StartFits start.Oldest = Unit {0}
+StartFits (start.Place d) = Unit {0}
+StartFits (start.Tx txid) = IsTxid txid
+
+-- what an order does
+abbrev pub DoingFits : ClientArgs → Order → Doing → Type 0
+DoingFits me o (Makes heard) = Unit {0}
+DoingFits me o (Removes heard) = Unit {0}
+DoingFits me o (Opens heard) = OpenStageFits (open_stage (open_args me o) heard)
+DoingFits me o (Recovers heard) = Unit {0}
+DoingFits me o Commits = Unit {0}
+DoingFits me o Confirms = Unit {0}
+DoingFits me o (Closes args heard) = Unit {0}
+DoingFits me o (Seeks from heard) = StartFits from
+DoingFits me o Reads = Unit {0}
+DoingFits me o (Truncates to heard) = IsPlaceFrom 0 to
+DoingFits me o (Purges heard) = Unit {0}
+
+-- An order.
+pub record OrderFits (me : ClientArgs) (o : Order) : Type 0 where
+  pub stream : IsName o.stream
+  pub doing : DoingFits me o o.doing
+
+-- A writer, where at most so many lines were taken.
+pub record WriterFits (n : ℕ) (w : WriterView) : Type 0 where
+  pub stream : IsName w.stream
+  pub segment : IsU64 w.opened.segment
+  pub log : LogFits (set_most * n) (2 * n) (log_now w)
+
+-- a reader is on a stream
+abbrev pub ReaderFits : ReaderView → Type 0
+ReaderFits r = IsName r.args.stream
+
+-- A client, where at most so many lines were taken.
+pub record NowFits (me : ClientArgs) (n : ℕ) (now : ClientNow) : Type 0 where
+  pub taken : now.taken ≤ me.calls + set_most * n
+  pub order : AllSome (OrderFits me) now.order
+  pub writer : AllSome (WriterFits n) now.writer
+  pub reader : AllSome ReaderFits now.reader
+
+-- ---- what it does
+
+-- An entry that was sent.
+pub record SentFits (x : SentEntry) : Type 0 where
+  pub stream : IsName x.stream
+  pub rows : AllByRecursion IsRow x.rows
+
+-- What a client does as it takes so many lines more.
+pub record ActsFit (more : ℕ) (acts : Acts) : Type 0 where
+  pub events : AllByRecursion FitsItsLine acts.events
+  pub sent : AllSome SentFits acts.sent
+  pub taken : acts.taken ≤ set_most * more
+
+-- A client that takes something, and what it does.
+pub record MoveFits (me : ClientArgs) (n more : ℕ) (move : ClientMove) : Type 0 where
+  pub now : NowFits me n move.now
+  pub acts : ActsFit more move.acts
+
+-- ---- lines more
+
+-- a writer behind lines more
+writer_more : (n m : ℕ) → n ≤ m → (w : Option WriterView) → AllSome (WriterFits n) w → AllSome (WriterFits m) w
+writer_more n m h None fit = tt
+writer_more n m h (Some w) fit = record {
+  stream = fit.stream;
+  segment = fit.segment;
+  log = log_more (set_most * n) (set_most * m) (2 * n) (2 * m) (log_now w) (omega (arith, h)) (omega (arith, h)) fit.log;
+}
+
+-- a client behind lines more
+pub now_more : (me : ClientArgs) (n m : ℕ) (now : ClientNow) → n ≤ m → NowFits me n now → NowFits me m now
+now_more me n m now h fit = record {
+  taken = omega (arith, h, fit.taken);
+  order = fit.order;
+  writer = writer_more n m h now.writer fit.writer;
+  reader = fit.reader;
+}
+
+-- a client that has taken nothing yet
+pub new_fits : (me : ClientArgs) (n : ℕ) → NowFits me n (new_client me)
+new_fits me n = record { taken = omega arith; order = tt; writer = tt; reader = tt }
+
+-- ---- acts
+
+-- it does nothing
+pub no_acts_fit : (more : ℕ) → ActsFit more no_acts
+no_acts_fit more = record { events = tt; sent = tt; taken = omega arith }
+
+-- letters more
+pub letters_fit : (more : ℕ) (letters : List Letter) (acts : Acts) → ActsFit more acts → ActsFit more (with_letters letters acts)
+letters_fit more letters acts fit = record { events = fit.events; sent = fit.sent; taken = fit.taken }
+
+-- an event more
+pub event_fits : (more : ℕ) (e : Event) (acts : Acts) → FitsItsLine e → ActsFit more acts → ActsFit more (with_event e acts)
+event_fits more e acts h fit = record { events = all-last FitsItsLine acts.events e fit.events h; sent = fit.sent; taken = fit.taken }
+
+-- one event alone
+pub shows_fit : (more : ℕ) (e : Event) → FitsItsLine e → ActsFit more (shows e)
+shows_fit more e h = event_fits more e no_acts h (no_acts_fit more)
+
+-- ---- moves
+
+-- the writer behind an order that has ended
+behind_fits : (n : ℕ) (ends : Bool) (w : Option WriterView) → AllSome (WriterFits n) w → AllSome (WriterFits n) (writer_behind ends w)
+behind_fits n true w fit = tt
+behind_fits n false w fit = fit
+
+-- a client whose order has ended
+pub without_fits : (me : ClientArgs) (n : ℕ) (now : ClientNow) (o : Order) → NowFits me n now → NowFits me n (without_order now o)
+without_fits me n now o fit = record {
+  taken = fit.taken;
+  order = tt;
+  writer = behind_fits n (is_close o.doing) now.writer fit.writer;
+  reader = fit.reader;
+}
+
+-- a client with an order under way
+pub with_fits : (me : ClientArgs) (n : ℕ) (now : ClientNow) (o : Order) → OrderFits me o → NowFits me n now → NowFits me n (with_order now o)
+with_fits me n now o is fit = record { taken = fit.taken; order = is; writer = fit.writer; reader = fit.reader }
+
+-- a client that takes something and stays as it is
+pub stays_fits : (me : ClientArgs) (n more : ℕ) (now : ClientNow) → NowFits me n now → MoveFits me n more (stays now no_acts)
+stays_fits me n more now fit = record { now = fit; acts = no_acts_fit more }
+
+-- a line that is refused
+pub refuses_fits : (me : ClientArgs) (n more : ℕ) (now : ClientNow) (r : Refusal) → IsClient me.number → NowFits me n now
+    → MoveFits me n more (refuses me now r)
+refuses_fits me n more now r c fit = record { now = fit; acts = shows_fit more (refusal_event me r) c }
+
+-- an order that waits
+pub waits_fits : (me : ClientArgs) (n more : ℕ) (now : ClientNow) (o : Order) (acts : Acts) → OrderFits me o → NowFits me n now → ActsFit more acts
+    → MoveFits me n more (waits now o acts)
+waits_fits me n more now o acts is fit done = record { now = with_fits me n now o is fit; acts = done }
+
+-- an order that ends with an event
+pub ends_fits : (me : ClientArgs) (n more : ℕ) (now : ClientNow) (o : Order) (acts : Acts) (e : Event) → NowFits me n now → ActsFit more acts
+    → FitsItsLine e → MoveFits me n more (ends_with now o acts e)
+ends_fits me n more now o acts e fit done h = record { now = without_fits me n now o fit; acts = event_fits more e acts h done }
+
+-- an order that goes on
+pub goes_fits : {A : Type 0} (me : ClientArgs) (n more : ℕ) (now : ClientNow) (o : Order) (acts : Acts) (P : A → Type 0) (next : Next A) (done : A → ClientMove)
+    → IsClient me.number → OrderFits me o → NowFits me n now → ActsFit more acts → NextFits P next
+    → ((a : A) → P a → MoveFits me n more (done a)) → MoveFits me n more (goes_on me now o acts next done)
+goes_fits me n more now o acts P Wait done c is fit acted h later = waits_fits me n more now o acts is fit acted
+goes_fits me n more now o acts P (Ask r) done c is fit acted h later = record {
+  now = record { taken = fit.taken; order = is; writer = fit.writer; reader = fit.reader };
+  acts = letters_fit more _ acts acted;
+}
+goes_fits me n more now o acts P (Tell ts) done c is fit acted h later =
+    waits_fits me n more now o (with_letters _ acts) is fit (letters_fit more _ acts acted)
+goes_fits me n more now o acts P (Done a) done c is fit acted h later = later a h
+goes_fits me n more now o acts P (Refused r) done c is fit acted h later = ends_fits me n more now o acts (refusal_event me r) fit acted c
