@@ -1,6 +1,292 @@
 -- Each event of a run fits its line.
-use Rattle.dl_machine.specs.RangeLaws.{EventsFitTheirLines}
-use Rattle.dl_machine.proofs.InputRanges.{client_fits}
+use Rattle.std.proofs.Common.{◌≡◌, ℕ, zero, suc, ◌+◌, ◌≤◌, Bool, true, false, List, [], ◌∷◌, ◌++◌, length, map, Option, Some, None, refl, sym, ap, ◌∙◌}
+use Rattle.std.proofs.Common.{subst, Result, Ok, Err, append_assoc, arith}
+use Rattle.std.specs.List.{AllByRecursion}
+use Rattle.std.specs.Prelude.{nat_lt}
+use Rattle.std.proofs.lemmas.Bool.{ltb-false}
+use Rattle.dl_types.specs.declared.limit.LimitName.TheVariants as limit
+use Rattle.dl_text.specs.TextLines.{lines_of}
+use Rattle.dl_schedule.specs.StepReading.{parsed_line}
+use Rattle.dl_schedule.proofs.StepExactness.{step_exact}
+use Rattle.dl_schedule.proofs.WholeLines.{reading_found}
+use Rattle.dl_schedule.specs.declared.node.Node as target
+use Rattle.dl_schedule.specs.declared.node.Node.TheVariants as node
+use Rattle.dl_schedule.specs.declared.step.Step.{Step}
+use Rattle.dl_schedule.specs.declared.step.Step.TheVariants as step
+use Rattle.dl_schedule.specs.StepLines.{IsStep}
+use Rattle.dl_transcript.specs.declared.event.Event.{Event}
+use Rattle.dl_transcript.specs.declared.event.Event.TheVariants as event
+use Rattle.dl_transcript.specs.Lines.{numbered, print_event, print_transcript}
+use Rattle.dl_transcript.specs.Ranges.{IsU32}
+use Rattle.dl_rules_nodes.specs.Metadata.{meta_from}
+use Rattle.dl_rules_client.specs.EventRanges.{FitsItsLine}
+use Rattle.dl_rules_client.proofs.RangeLists.{all-append}
+use Rattle.dl_machine.specs.States.{State, blank, bookies_of}
+use Rattle.dl_machine.specs.Atoms.{Atom, SetUp, Join, Crash, End, Order, Deliver, Commit, Stop, StopMeta, Kill, KillMeta, Rise, RiseMeta, Lose, Shows, atom}
+use Rattle.dl_machine.specs.Lines.{Mail, links, conf_of, is_idle, is_kept, place_of, at_place, kill_of, rise_of, order_of, client_in, plain_atoms}
+use Rattle.dl_machine.specs.Limits.{Past, past_where, first_past, most_lines, most_schedule, turn_limit}
+use Rattle.dl_machine.specs.Replays.{Replay, Going, first_going, past_schedule, run_atoms, going_behind, after_line, run_line, take_line, replay_from}
+use Rattle.dl_machine.specs.Replays.{replay, replay_text}
+use Rattle.dl_machine.specs.Fates.{with_luck, well}
+use Rattle.dl_machine.specs.Runs.{after, events, next_letter, nodes_due, turn_by, turn, settles, busy_atoms, line_atoms, step_with, run, transcript}
+use Rattle.dl_machine.specs.Laws.{turns_on, turns}
+use Rattle.dl_machine.specs.RangeLaws.{FitsAtLine, FittingText, EventsFitTheirLines}
+use Rattle.dl_machine.proofs.Movements.{cond_both}
+use Rattle.dl_machine.proofs.FateLaws.{failures_aside}
+use Rattle.dl_machine.proofs.StateRanges.{StateFits, state_more, IsAtom, cost, atom_fits}
+
+-- ---- atomic steps in order
+
+-- how many lines atomic steps count for
+abbrev costs : List Atom → ℕ
+costs [] = 0
+costs (a ∷ xs) = cost a + costs xs
+
+-- The state behind atomic steps, and what they show.
+record RowFits (lines : ℕ) (s : State) (xs : List Atom) : Type 0 where
+  state : StateFits lines (after s xs)
+  shown : AllByRecursion FitsItsLine (events s xs)
+
+-- atomic steps in a row
+row_fits : (n m : ℕ) (s : State) (xs : List Atom) → n + costs xs ≤ m → m ≤ most_lines → AllByRecursion IsAtom xs → StateFits n s → RowFits m s xs
+unfolding after events
+row_fits n m s [] h few is fit = record { state = state_more n m s (omega (arith, h)) fit; shown = tt }
+row_fits n m s (a ∷ xs) h few is fit =
+    let here : n + cost a ≤ m = omega (arith, h) in
+    let rest : (n + cost a) + costs xs ≤ m = omega (arith, h) in
+    let now = atom_fits n (n + cost a) s a (omega arith) (omega (arith, here, few)) is.0 fit in
+    let later = row_fits (n + cost a) m (atom s a).state xs rest few is.1 now.state in
+    record { state = later.state; shown = all-append FitsItsLine (atom s a).events (events (atom s a).state xs) now.events later.shown }
+
+-- ---- the atomic steps of a line
+
+-- The atomic steps of a line: they count for one at most.
+record LineFits (xs : List Atom) : Type 0 where
+  each : AllByRecursion IsAtom xs
+  few : costs xs ≤ 1
+
+-- Atomic steps that count for none.
+record AreFree (xs : List Atom) : Type 0 where
+  each : AllByRecursion IsAtom xs
+  free : costs xs ≡ 0
+
+-- steps that count for none are those of a line
+free_line : (xs : List Atom) → AreFree xs → LineFits xs
+free_line xs h = record { each = h.each; few = omega (arith, h.free) }
+
+-- one step
+one_fits : (a : Atom) → IsAtom a → cost a ≤ 1 → LineFits (a ∷ [])
+one_fits a is few = record { each = (is, tt); few = omega (arith, few) }
+
+-- steps that count for none, and others behind them
+free-append : (xs ys : List Atom) → AreFree xs → AreFree ys → AreFree (xs ++ ys)
+free-append [] ys a b = b
+free-append (x ∷ xs) ys a b =
+    let none : costs xs ≡ 0 = omega (arith, a.free) in
+    let cheap : cost x ≡ 0 = omega (arith, a.free) in
+    let rest = free-append xs ys (record { each = a.each.1; free = none }) b in
+    record { each = (a.each.0, rest.each); free = omega (arith, cheap, rest.free) }
+
+-- links are shown
+mails_fit : (ms : List Mail) → AreFree (map Shows (map (λ (m : Mail). event.Mail m.from m.to m.count) ms))
+mails_fit [] = record { each = tt; free = refl }
+mails_fit (m ∷ ms) = let rest = mails_fit ms in record { each = (tt, rest.each); free = omega (arith, rest.free) }
+
+-- a letter is delivered
+deliver_fits : (place : Option ℕ) → LineFits (at_place Deliver place)
+deliver_fits None = record { each = tt; few = omega arith }
+deliver_fits (Some place) = one_fits (Deliver place) tt (omega arith)
+
+-- the metadata node stops on a letter
+stop_fits : (kept : Bool) (place : Option ℕ) → LineFits (at_place (λ place. StopMeta place kept) place)
+stop_fits kept None = record { each = tt; few = omega arith }
+stop_fits kept (Some place) = one_fits (StopMeta place kept) tt (omega arith)
+
+-- a node goes down
+kill_fits : (x : target.Node) → LineFits (kill_of x ∷ [])
+kill_fits (node.Bookie b) = one_fits (Kill b) tt (omega arith)
+kill_fits node.Meta = one_fits KillMeta tt (omega arith)
+
+-- a node is loaded
+rise_fits : (x : target.Node) → LineFits (rise_of x ∷ [])
+rise_fits (node.Bookie b) = one_fits (Rise b) tt (omega arith)
+rise_fits node.Meta = one_fits RiseMeta tt (omega arith)
+
+-- a client takes a line
+order_fits : (line : ℕ) (x : Step) (c : Option ℕ) → IsStep x → LineFits (order_of line x c)
+order_fits line x None is = record { each = tt; few = omega arith }
+order_fits line x (Some c) is = one_fits (Order c line x) is (omega arith)
+
+-- the atomic steps of a line that doesn't settle
+plain_fits : (s : State) (line : ℕ) (x : Step) → IsStep x → LineFits (plain_atoms s line x)
+unfolding plain_atoms
+plain_fits s line (step.Setup b e w a) is = one_fits (SetUp (conf_of b e w a)) tt (omega arith)
+plain_fits s line (step.Join c) is = one_fits (Join c) is (omega arith)
+plain_fits s line (step.Crash c) is = one_fits (Crash c) tt (omega arith)
+plain_fits s line (step.Expire k) is = one_fits (End k) is (omega arith)
+plain_fits s line (step.Deliver from to n) is = deliver_fits (place_of s.letters from to n)
+plain_fits s line (step.Sync b) is = one_fits (Commit b) tt (omega arith)
+plain_fits s line (step.Lose b) is = one_fits (Lose b) tt (omega arith)
+plain_fits s line (step.Stop b call kept) is = one_fits (Stop b (is_kept call kept)) tt (omega arith)
+plain_fits s line (step.StopMeta c n call kept) is = stop_fits (is_kept call kept) _
+plain_fits s line (step.Kill x) is = kill_fits x
+plain_fits s line (step.Up x) is = rise_fits x
+plain_fits s line step.Settle is = record { each = tt; few = omega arith }
+plain_fits s line step.Mail is = free_line _ (mails_fit (links s.letters))
+plain_fits s line x is = order_fits line x (client_in x) is
+
+-- ---- settling
+
+-- storage nodes commit
+commits_free : (bookies : List ℕ) → AreFree (map Commit bookies)
+commits_free [] = record { each = tt; free = refl }
+commits_free (b ∷ bs) = let rest = commits_free bs in record { each = (tt, rest.each); free = omega (arith, rest.free) }
+
+-- a turn of settling
+turn_by_free : (s : State) (place : Option ℕ) → AreFree (turn_by s place)
+turn_by_free s None = commits_free (nodes_due s (bookies_of s.conf))
+turn_by_free s (Some place) = record { each = (tt, tt); free = refl }
+
+-- the same
+turn_free : (s : State) → AreFree (turn s)
+unfolding turn
+turn_free s = turn_by_free s (next_letter s 0 s.letters)
+
+-- a turn, and those behind it
+turns_on_free : (s : State) (xs : List Atom) (rest : State → List Atom) → AreFree xs → ((t : State) → AreFree (rest t)) → AreFree (turns_on s xs rest)
+turns_on_free s [] rest a later = a
+turns_on_free s (x ∷ xs) rest a later = free-append (x ∷ xs) (rest (after s (x ∷ xs))) a (later (after s (x ∷ xs)))
+
+-- so many turns
+turns_free : (n : ℕ) (s : State) → AreFree (turns n s)
+unfolding turns
+turns_free zero s = record { each = tt; free = refl }
+turns_free (suc n) s = turns_on_free s (turn s) (turns n) (turn_free s) (turns_free n)
+
+-- a settling
+settle_fits : (s : State) → LineFits (settles well turn_limit 0 s)
+settle_fits s = subst LineFits (sym (failures_aside.settling turn_limit 0 s)) (free_line (turns turn_limit s) (turns_free turn_limit s))
+
+-- ---- lines
+
+-- the atomic steps of a line, where no device fails
+lucky_fits : (s : State) (line : ℕ) (x : Step) → IsStep x → LineFits (with_luck well 0 (plain_atoms s line x))
+lucky_fits s line x is = subst LineFits (sym (failures_aside.steps 0 (plain_atoms s line x))) (plain_fits s line x is)
+
+-- the same of a line that changes something
+busy_fits : (s : State) (line : ℕ) (x : Step) → IsStep x → LineFits (busy_atoms well s line x)
+busy_fits s line step.Settle is = settle_fits s
+busy_fits s line x is = lucky_fits s line x is
+
+-- the atomic steps of a line
+line_fits : (s : State) (line : ℕ) (x : Step) → IsStep x → LineFits (line_atoms well s line x)
+unfolding line_atoms
+line_fits s line x is =
+    cond_both LineFits (is_idle s x) (Shows event.Nothing ∷ []) (busy_atoms well s line x) (one_fits (Shows event.Nothing) tt (omega arith))
+    (busy_fits s line x is)
+
+-- ---- runs
+
+-- the events of a line with its number
+numbered_fits : (line : ℕ) (es : List Event) → IsU32 line → AllByRecursion FitsItsLine es → AllByRecursion FitsAtLine (numbered line es)
+numbered_fits line [] number each = tt
+numbered_fits line (e ∷ es) number each = ((number, each.0), numbered_fits line es number each.1)
+
+-- a run behind so many lines
+run_fits : (n : ℕ) (s : State) (line : ℕ) (xs : List Step) → line ≡ suc n → n + length xs ≤ most_lines → AllByRecursion IsStep xs → StateFits n s
+    → AllByRecursion FitsAtLine (run s line xs).transcript
+unfolding run step_with
+run_fits n s line [] at few is fit = tt
+run_fits n s line (x ∷ xs) at few is fit =
+    let atoms : List Atom = line_atoms well s line x in
+    let its = line_fits s line x is.0 in
+    let here : suc n ≤ most_lines = omega (arith, few) in
+    let rest : suc n + length xs ≤ most_lines = omega (arith, few) in
+    let row = row_fits n (suc n) s atoms (omega (arith, its.few)) here its.each fit in
+    all-append FitsAtLine (numbered line (events s atoms)) (run (after s atoms) (suc line) xs).transcript
+    (numbered_fits line (events s atoms) (omega arith, omega (arith, at, here)) row.shown)
+    (run_fits (suc n) (after s atoms) (suc line) xs (omega (arith, at)) rest is.1 row.state)
+
+-- before a setup
+blank_fits : StateFits 0 blank
+unfolding meta_from
+blank_fits = record { joined = λ c. tt; calls = λ c. omega arith; ledgers = λ l. tt; sessions = omega arith }
+
+-- a run from the first line on
+all_fit : (steps : List Step) → AllByRecursion IsStep steps → length steps ≤ most_lines → AllByRecursion FitsAtLine (transcript steps)
+all_fit steps is few = run_fits 0 blank 1 steps refl (omega (arith, few)) is blank_fits
+
+-- ---- replays
+
+-- the text of a transcript, and then that of another
+print-append : (xs ys : List (ℕ × Event)) → print_transcript (xs ++ ys) ≡ print_transcript xs ++ print_transcript ys
+print-append [] ys = refl
+print-append (x ∷ xs) ys =
+    ap (λ text. print_event x.0 x.1 ++ text) (print-append xs ys) ∙ sym (append_assoc (print_event x.0 x.1) (print_transcript xs) (print_transcript ys))
+
+-- no text
+no_text : FittingText []
+no_text = record { events = []; printed = refl; fit = tt }
+
+-- the text of events that fit, and then another
+more_text : (xs : List (ℕ × Event)) (text : List ℕ) → AllByRecursion FitsAtLine xs → FittingText text → FittingText (print_transcript xs ++ text)
+more_text xs text each t = record {
+  events = xs ++ t.events;
+  printed = ap (λ (ys : List ℕ). print_transcript xs ++ ys) t.printed ∙ sym (print-append xs t.events);
+  fit = all-append FitsAtLine xs t.events each t.fit;
+}
+
+-- What is known before a line of a replay.
+record GoingFits (g : Going) : Type 0 where
+  state : StateFits g.lines g.state
+  few : g.lines ≤ most_lines
+
+-- a line of a replay that is run
+after_fits : (g : Going) (size : ℕ) (atoms : List Atom) (past : Option Past) (rest : Going → Replay) → suc g.lines ≤ most_lines → LineFits atoms
+    → StateFits g.lines g.state → ((next : Going) → GoingFits next → FittingText (rest next).text)
+    → FittingText (after_line g size (run_atoms g atoms) past rest).text
+after_fits g size atoms (Some past) rest few its fit later = no_text
+after_fits g size atoms None rest few its fit later =
+    let row = row_fits g.lines (suc g.lines) g.state atoms (omega (arith, its.few)) few its.each fit in
+    let next : Going = going_behind g size (run_atoms g atoms) in
+    more_text (numbered (suc g.lines) (events g.state atoms)) (rest next).text
+    (numbered_fits (suc g.lines) (events g.state atoms) (omega arith, omega (arith, few)) row.shown)
+    (later next (record { state = row.state; few = few }))
+
+-- a line of a replay that was read
+read_fits : (g : Going) (line : List ℕ) (read : Result Step ℕ) (rest : Going → Replay) → parsed_line line ≡ read → suc g.lines ≤ most_lines
+    → StateFits g.lines g.state → ((next : Going) → GoingFits next → FittingText (rest next).text)
+    → FittingText (run_line g (length line) read rest).text
+read_fits g line (Err column) rest e few fit later = no_text
+read_fits g line (Ok x) rest e few fit later =
+    let its = line_fits g.state (suc g.lines) x (reading_found step_exact line x e).0 in
+    after_fits g (length line) (line_atoms well g.state (suc g.lines) x) (run_atoms g (line_atoms well g.state (suc g.lines) x)).past rest few its fit later
+
+-- a line that is past no limit of the schedule is one of at most so many
+not_past : (g : Going) (line : List ℕ) (is_past : Bool) (other : Option Past) → nat_lt most_lines (suc g.lines) ≡ is_past
+    → first_past (past_where is_past limit.Lines most_lines) other ≡ None → suc g.lines ≤ most_lines
+not_past g line true other e h = absurd cc
+not_past g line false other e h = ltb-false most_lines (suc g.lines) e
+
+-- a line of a replay
+take_fits : (g : Going) (line : List ℕ) (past : Option Past) (rest : Going → Replay) → past_schedule g line ≡ past → StateFits g.lines g.state
+    → ((next : Going) → GoingFits next → FittingText (rest next).text) → FittingText (take_line g line past rest).text
+take_fits g line (Some past) rest e fit later = no_text
+take_fits g line None rest e fit later =
+    let few : suc g.lines ≤ most_lines = not_past g line (nat_lt most_lines (suc g.lines)) (past_where (nat_lt most_schedule (g.bytes + length line)) limit.Schedule most_schedule) refl e in
+    read_fits g line (parsed_line line) rest refl few fit later
+
+-- the replay of lines
+lines_fit : (g : Going) (lines : List (List ℕ)) → GoingFits g → FittingText (replay_from g lines).text
+unfolding replay_from
+lines_fit g [] fit = no_text
+lines_fit g (line ∷ lines) fit =
+    take_fits g line (past_schedule g line) (λ next. replay_from next lines) refl fit.state (λ next is. lines_fit next lines is)
+
+-- the replay of a schedule
+replay_fits : (input : List ℕ) → FittingText (replay_text input)
+unfolding replay
+replay_fits input = lines_fit first_going (lines_of input) (record { state = blank_fits; few = omega arith })
 
 pub events_fit_their_lines : EventsFitTheirLines
-events_fit_their_lines = ?
+events_fit_their_lines = record { runs = all_fit; replays = replay_fits }

@@ -153,7 +153,7 @@ unfolding client_takes
 taken_letter_fits me n now l args fit = confirmed_fits me n 0 (takes_msg me now (bookie_in l.from) l.msg) (msg_fits me n now (bookie_in l.from) l.msg args fit)
 
 -- a client with fewer lines
-fewer : (me : ClientArgs) (n m : ℕ) → n ≤ m → ArgsFit m me → ArgsFit n me
+pub fewer : (me : ClientArgs) (n m : ℕ) → n ≤ m → ArgsFit m me → ArgsFit n me
 fewer me n m h args = record { number = args.number; calls = omega (arith, h, args.calls) }
 
 -- a client by all that it took
