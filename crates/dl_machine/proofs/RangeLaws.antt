@@ -288,5 +288,6 @@ replay_fits : (input : List ℕ) → FittingText (replay_text input)
 unfolding replay
 replay_fits input = lines_fit first_going (lines_of input) (record { state = blank_fits; few = omega arith })
 
+-- each event of a run fits its line, which is the law
 pub events_fit_their_lines : EventsFitTheirLines
 events_fit_their_lines = record { runs = all_fit; replays = replay_fits }

@@ -14,14 +14,15 @@ use Rattle.dl_transcript.specs.Ranges.{IsU64}
 use Rattle.dl_rules_stream.specs.Orders.{Next, Wait, Ask, Tell, Done, Refused}
 use Rattle.dl_rules_client.specs.Acts.{ClientArgs, SentEntry, Acts, no_acts, with_letters, with_event, shows}
 use Rattle.dl_rules_client.specs.Views.{Doing, Makes, Removes, Opens, Recovers, Commits, Confirms, Closes, Seeks, Reads, Truncates, Purges, Order}
-use Rattle.dl_rules_client.specs.Views.{WriterView, ReaderView, ClientNow, ClientMove, stays, open_args, log_now, new_client}
+use Rattle.dl_rules_client.specs.Views.{WriterView, ReaderView, ClientNow, ClientMove, stays, open_args, recover_args, log_now, new_client}
 use Rattle.dl_rules_client.specs.Moves.{refusal_event, refuses, is_close, writer_behind, without_order, ends_with, with_order, waits, goes_on}
+use Rattle.dl_rules_stream.specs.Recovers.{recover_stage}
 use Rattle.dl_rules_stream.specs.Opens.{open_stage}
 use Rattle.dl_rules_client.specs.EventRanges.{FitsItsLine, set_most}
 use Rattle.dl_rules_client.proofs.RangeLists.{AllSome, all-last}
 use Rattle.dl_rules_client.proofs.LogRanges.{IsRow, LogFits, log_more}
 use Rattle.dl_rules_client.proofs.NextRanges.{NextFits}
-use Rattle.dl_rules_client.proofs.OpenRanges.{OpenStageFits}
+use Rattle.dl_rules_client.proofs.OpenRanges.{OpenStageFits, RecoverStageFits}
 
 -- ---- what a client keeps
 
@@ -36,7 +37,7 @@ abbrev pub DoingFits : ClientArgs → Order → Doing → Type 0
 DoingFits me o (Makes heard) = Unit {0}
 DoingFits me o (Removes heard) = Unit {0}
 DoingFits me o (Opens heard) = OpenStageFits (open_stage (open_args me o) heard)
-DoingFits me o (Recovers heard) = Unit {0}
+DoingFits me o (Recovers heard) = RecoverStageFits (recover_stage (recover_args me o) heard)
 DoingFits me o Commits = Unit {0}
 DoingFits me o Confirms = Unit {0}
 DoingFits me o (Closes args heard) = Unit {0}

@@ -29,6 +29,7 @@ use Rattle.dl_rules_client.specs.Clients.{reply_hears, meta_hears, tagged_hears,
 use Rattle.dl_rules_client.specs.Clients.{with_confirmation, client_takes, client_of, acts_of}
 use Rattle.dl_rules_client.proofs.RangeLists.{cond_both}
 use Rattle.dl_rules_client.specs.EventRanges.{FitsItsLine, IsInput, lines_in, ArgsFit}
+use Rattle.dl_rules_client.proofs.OpenRanges.{recover_begun}
 use Rattle.dl_rules_client.proofs.RangeLists.{AllSome}
 use Rattle.dl_rules_client.proofs.ClientRanges.{OrderFits, NowFits, MoveFits, now_more, new_fits, no_acts_fit, stays_fits, refuses_fits, ends_fits}
 use Rattle.dl_rules_client.proofs.OrderRanges.{begins_fits, begins_open_fits, begins_read_fits, order_fits}
@@ -97,7 +98,8 @@ order_line_fits me n now line (step.Remove c s) args is fit =
 order_line_fits me n now line (step.Open c s) args is fit =
     begins_open_fits me (suc n) 1 now line s now.writer args.number is.1 (now_more me n (suc n) now (omega arith) fit)
 order_line_fits me n now line (step.Recover c s) args is fit =
-    begins_fits me (suc n) 1 now line s (Recovers []) (λ o. (recover_first (recover_args me o)).1) args.number is.1 tt (now_more me n (suc n) now (omega arith) fit)
+    begins_fits me (suc n) 1 now line s (Recovers []) (λ o. (recover_first (recover_args me o)).1) args.number is.1
+    (recover_begun (record { tag = line; stream = s; conf = me.conf })) (now_more me n (suc n) now (omega arith) fit)
 order_line_fits me n now line (step.Purge c s) args is fit =
     begins_fits me (suc n) 1 now line s (Purges []) (λ o. (purge_first s).1) args.number is.1 tt (now_more me n (suc n) now (omega arith) fit)
 order_line_fits me n now line (step.Commit c) args is fit = commit_fits me n now line now.writer args fit.writer fit

@@ -1,6 +1,8 @@
 pub mod RangeLists
 pub mod NextRanges
+pub mod NodeRanges
 pub mod LogRanges
+pub mod RecoveryRanges
 pub mod OpenRanges
 pub mod ClientRanges
 pub mod OrderRanges

@@ -22,20 +22,24 @@ use Rattle.dl_rules_stream.specs.Listings.{last_segment}
 use Rattle.dl_rules_stream.specs.Locks.{lock_first, lock_hears}
 use Rattle.dl_rules_stream.specs.Looks.{Looked, look_first, look_hears}
 use Rattle.dl_rules_stream.specs.Allocations.{AllocationStage, allocation_first, allocation_hears}
-use Rattle.dl_rules_stream.specs.SegmentRecoveries.{SegmentArgs, SegmentStage, Recovered, segment_first, segment_hears}
+use Rattle.dl_rules_stream.specs.SegmentRecoveries.{SegmentArgs, SegmentStage, Recovered, ClosedAt, Again, segment_first, segment_hears}
 use Rattle.dl_rules_stream.specs.Opens.{OpenArgs, OpenStage, Locking, LookingFor, RecoveringSegment, Allocating, Starting, OpenDone, Opened}
 use Rattle.dl_rules_stream.specs.Opens.{alloc_version_in, looks, segment_args, segment_goes, allocation_args, allocation_goes, allocates}
-use Rattle.dl_rules_stream.specs.Opens.{after_look, start_answers, open_hears, open_stage}
+use Rattle.dl_rules_stream.specs.Opens.{after_look, start_answers, open_hears, open_recovers, open_stage}
+use Rattle.dl_rules_stream.specs.Recovers as recover
 use Rattle.dl_rules_stream.specs.Truncates.{TruncateArgs, Bounds, TruncateStage, LookingAtCut, SettingCut, TruncateDone, within_bounds, truncate_answers}
+use Rattle.dl_rules_stream.specs.Recovers as recover
 use Rattle.dl_rules_stream.specs.Truncates.{truncate_hears}
-use Rattle.dl_rules_client.proofs.RangeLists.{cond_both}
-use Rattle.dl_rules_client.proofs.NextRanges.{NextFits, PairFits, within_fits, refused_fits}
+use Rattle.dl_rules_client.proofs.RangeLists.{Any, AllSome, cond_both}
+use Rattle.dl_rules_client.proofs.NextRanges.{NextFits, PairFits, within_such, within_fits, refused_fits}
+use Rattle.dl_rules_client.proofs.NodeRanges.{NameFits, last_segment_fits}
+use Rattle.dl_rules_client.proofs.RecoveryRanges.{LookedFits, look_fits, SegmentStageFits, RecoveredFits, SegmentMove, segment_fits, end_place, by_fits}
 
 -- the next segment has at most ten digits
 abbrev pub OpenStageFits : OpenStage → Type 0
 OpenStageFits (Locking stage) = Unit {0}
 OpenStageFits (LookingFor member stage) = Unit {0}
-OpenStageFits (RecoveringSegment member args stage) = Unit {0}
+OpenStageFits (RecoveringSegment member args stage) = (args.segment ≤ ten_nines) × SegmentStageFits stage
 OpenStageFits (Allocating member looked stage) = looked.maxseq.segment + 1 ≤ ten_nines
 OpenStageFits (Starting b) = b.segment ≤ ten_nines
 OpenStageFits OpenDone = Unit {0}
@@ -53,9 +57,11 @@ looks_fit : (x : OpenArgs) (member : List ℕ) → OpenFits (looks x member)
 looks_fit x member = within_fits OpenStageFits OpenedFits (LookingFor member) OpenDone (λ looked. (OpenDone, Wait)) (look_first x.stream) (λ s. tt) tt (λ a. (tt, tt))
 
 -- the recovery of a segment
-segment_fits : (x : OpenArgs) (member : List ℕ) (args : SegmentArgs) (move : SegmentStage × Next Recovered) → OpenFits (segment_goes x member args move)
-segment_fits x member args move =
-    within_fits OpenStageFits OpenedFits (RecoveringSegment member args) OpenDone (λ r. looks x member) move (λ s. tt) tt (λ r. looks_fit x member)
+goes_fits : (x : OpenArgs) (member : List ℕ) (args : SegmentArgs) (move : SegmentStage × Next Recovered) → args.segment ≤ ten_nines → SegmentMove move
+    → OpenFits (segment_goes x member args move)
+goes_fits x member args move h is =
+    within_such SegmentStageFits RecoveredFits OpenStageFits OpenedFits (RecoveringSegment member args) OpenDone (λ r. looks x member) move
+    (λ s fit. (h, fit)) tt (λ r u. looks_fit x member) is
 
 -- an allocation
 allocation_fits : (x : OpenArgs) (member : List ℕ) (looked : Looked) (version : ℕ) (move : AllocationStage × Next ℕ)
@@ -73,10 +79,12 @@ allocates_fit x member looked = go (nat_lt ten_nines (looked.maxseq.segment + 1)
     go false e = allocation_fits x member looked 0 (allocation_first (allocation_args x member looked)) (ltb-false ten_nines (looked.maxseq.segment + 1) e)
 
 -- behind a look
-after_look_fits : (x : OpenArgs) (member : List ℕ) (looked : Looked) (last : Option SegmentName) → OpenFits (after_look x member looked last)
-after_look_fits x member looked (Some (Progress k)) = segment_fits x member (segment_args x member looked k) (segment_first (segment_args x member looked k))
-after_look_fits x member looked (Some (Completed k)) = allocates_fit x member looked
-after_look_fits x member looked None = allocates_fit x member looked
+after_look_fits : (x : OpenArgs) (member : List ℕ) (looked : Looked) (last : Option SegmentName) → AllSome NameFits last
+    → OpenFits (after_look x member looked last)
+after_look_fits x member looked (Some (Progress k)) is =
+    goes_fits x member (segment_args x member looked k) (segment_first (segment_args x member looked k)) is (tt, tt)
+after_look_fits x member looked (Some (Completed k)) is = allocates_fit x member looked
+after_look_fits x member looked None is = allocates_fit x member looked
 
 -- the start of the segment
 start_fits : (b : Beginning) (a : MetaAnswer) → b.segment ≤ ten_nines → OpenFits (start_answers b a)
@@ -90,9 +98,11 @@ unfolding open_hears
 open_fits x (Locking stage) h is =
     within_fits OpenStageFits OpenedFits Locking OpenDone (looks x) (lock_hears x.stream stage h) (λ s. tt) tt (λ member. looks_fit x member)
 open_fits x (LookingFor member stage) h is =
-    within_fits OpenStageFits OpenedFits (LookingFor member) OpenDone (λ looked. after_look x member looked (last_segment looked.segments))
-    (look_hears x.stream stage h) (λ s. tt) tt (λ looked. after_look_fits x member looked (last_segment looked.segments))
-open_fits x (RecoveringSegment member args stage) h is = segment_fits x member args (segment_hears args stage h)
+    within_such Any LookedFits OpenStageFits OpenedFits (LookingFor member) OpenDone (λ looked. after_look x member looked (last_segment looked.segments))
+    (look_hears x.stream stage h) (λ s u. tt) tt
+    (λ looked fit. after_look_fits x member looked (last_segment looked.segments) (last_segment_fits looked.segments fit)) (look_fits x.stream stage h)
+open_fits x (RecoveringSegment member args stage) h is =
+    goes_fits x member args (segment_hears args stage h) is.0 (segment_fits args stage h is.1)
 open_fits x (Allocating member looked stage) h is =
     allocation_fits x member looked (alloc_version_in h) (allocation_hears (allocation_args x member looked) stage h) is
 open_fits x (Starting b) (Reply a) is = start_fits b a is
@@ -108,6 +118,76 @@ open_begun x = (within_fits OpenStageFits OpenedFits Locking OpenDone (looks x) 
 pub open_later : (x : OpenArgs) (h : Heard) (heard : List Heard) → OpenStageFits (open_stage x heard) → OpenStageFits (open_stage x (h ∷ heard))
 unfolding stage_after
 open_later x h heard is = (open_fits x (open_stage x heard) h is).0
+
+-- the place at which a segment ends that what an open hears completes
+pub recovers_fit : (stage : OpenStage) (h : Heard) → OpenStageFits stage → AllSome (IsPlaceFrom 0) (open_recovers stage h)
+recovers_fit (RecoveringSegment member args stage) h is = by_fits args (segment_hears args stage h) is.0 (segment_fits args stage h is.1)
+recovers_fit stage h is = tt
+
+-- ---- recoveries
+
+-- the segment that is recovered has at most ten digits
+abbrev pub RecoverStageFits : recover.RecoverStage → Type 0
+RecoverStageFits (recover.LookingFor stage) = Unit {0}
+RecoverStageFits (recover.RecoveringSegment args stage) = (args.segment ≤ ten_nines) × SegmentStageFits stage
+RecoverStageFits recover.RecoverDone = Unit {0}
+
+-- what a recovery finds ends at a place
+abbrev pub FoundFits : recover.Found → Type 0
+FoundFits recover.Whole = Unit {0}
+FoundFits (recover.Completes end) = IsPlaceFrom 0 end
+
+-- a stage of a recovery, and what it does next
+abbrev RecoverFits : recover.RecoverStage × Next recover.Found → Type 0
+RecoverFits move = PairFits RecoverStageFits FoundFits move
+
+-- a look
+recover_looks_fit : (x : recover.RecoverArgs) → RecoverFits (recover.looks x)
+recover_looks_fit x =
+    within_fits RecoverStageFits FoundFits recover.LookingFor recover.RecoverDone (λ looked. (recover.RecoverDone, Wait)) (look_first x.stream)
+    (λ s. tt) tt (λ a. (tt, tt))
+
+-- behind a segment that is recovered
+after_recovered_fits : (x : recover.RecoverArgs) (args : SegmentArgs) (r : Recovered) → args.segment ≤ ten_nines → RecoveredFits r
+    → RecoverFits (recover.after_segment x args r)
+after_recovered_fits x args (ClosedAt count) h is = (tt, end_place args.segment count h is)
+after_recovered_fits x args Again h is = recover_looks_fit x
+
+-- the recovery of a segment
+recover_goes_fits : (x : recover.RecoverArgs) (args : SegmentArgs) (move : SegmentStage × Next Recovered) → args.segment ≤ ten_nines → SegmentMove move
+    → RecoverFits (recover.segment_goes x args move)
+recover_goes_fits x args move h is =
+    within_such SegmentStageFits RecoveredFits RecoverStageFits FoundFits (recover.RecoveringSegment args) recover.RecoverDone (recover.after_segment x args) move
+    (λ s fit. (h, fit)) tt (λ r fit. after_recovered_fits x args r h fit) is
+
+-- behind a look
+recover_after_fits : (x : recover.RecoverArgs) (looked : Looked) (last : Option SegmentName) → AllSome NameFits last
+    → RecoverFits (recover.after_look x looked last)
+recover_after_fits x looked (Some (Progress k)) is =
+    recover_goes_fits x (recover.segment_args x looked k) (segment_first (recover.segment_args x looked k)) is (tt, tt)
+recover_after_fits x looked (Some (Completed k)) is = (tt, tt)
+recover_after_fits x looked None is = (tt, tt)
+
+-- what a recovery does at what it hears
+pub recover_fits : (x : recover.RecoverArgs) (stage : recover.RecoverStage) (h : Heard) → RecoverStageFits stage → RecoverFits (recover.recover_hears x stage h)
+unfolding recover.recover_hears
+recover_fits x (recover.LookingFor stage) h is =
+    within_such Any LookedFits RecoverStageFits FoundFits recover.LookingFor recover.RecoverDone
+    (λ looked. recover.after_look x looked (last_segment looked.segments)) (look_hears x.stream stage h) (λ s u. tt) tt
+    (λ looked fit. recover_after_fits x looked (last_segment looked.segments) (last_segment_fits looked.segments fit)) (look_fits x.stream stage h)
+recover_fits x (recover.RecoveringSegment args stage) h is = recover_goes_fits x args (segment_hears args stage h) is.0 (segment_fits args stage h is.1)
+recover_fits x recover.RecoverDone h is = (tt, tt)
+
+-- the stage with which a recovery begins
+pub recover_begun : (x : recover.RecoverArgs) → RecoverStageFits (recover.recover_stage x [])
+unfolding stage_after
+recover_begun x = (recover_looks_fit x).0
+
+-- the stage behind one thing more that it hears
+pub recover_later : (x : recover.RecoverArgs) (h : Heard) (heard : List Heard) → RecoverStageFits (recover.recover_stage x heard)
+    → RecoverStageFits (recover.recover_stage x (h ∷ heard))
+unfolding stage_after
+recover_later x h heard is = (recover_fits x (recover.recover_stage x heard) h is).0
 
 -- ---- truncations
 

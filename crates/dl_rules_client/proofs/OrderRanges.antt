@@ -16,7 +16,7 @@ use Rattle.dl_rules_stream.specs.Orders.{Next}
 use Rattle.dl_rules_stream.specs.Makes.{make_hears, make_stage}
 use Rattle.dl_rules_stream.specs.Removes.{remove_hears, remove_stage}
 use Rattle.dl_rules_stream.specs.Opens.{OpenStage, Opened, open_first, open_hears, open_recovers, open_stage}
-use Rattle.dl_rules_stream.specs.Recovers.{Found, Whole, Completes, recover_hears, recover_stage}
+use Rattle.dl_rules_stream.specs.Recovers.{RecoverArgs, Found, Whole, Completes, recover_hears, recover_stage}
 use Rattle.dl_rules_stream.specs.Closes.{close_hears, close_stage}
 use Rattle.dl_rules_stream.specs.Seeks.{seek_hears, seek_stage}
 use Rattle.dl_rules_stream.specs.Truncates.{truncate_hears, truncate_stage}
@@ -31,9 +31,10 @@ use Rattle.dl_rules_client.specs.Moves.{without_order}
 use Rattle.dl_rules_client.specs.Orders.{begins, begins_open, rows_event, reader_goes_on, begins_read, read_hears, recovered_acts, ends_open}
 use Rattle.dl_rules_client.specs.Orders.{found_event, opened_event, ends_seek, goes_to, open_goes_on, order_hears}
 use Rattle.dl_rules_client.specs.EventRanges.{FitsItsLine, set_most}
-use Rattle.dl_rules_client.proofs.RangeLists.{AllSome}
-use Rattle.dl_rules_client.proofs.NextRanges.{NextFits, Any, any_next}
-use Rattle.dl_rules_client.proofs.OpenRanges.{OpenedFits, OpenStageFits, open_fits, open_begun, open_later, truncated_fits}
+use Rattle.dl_rules_client.proofs.RangeLists.{Any, AllSome}
+use Rattle.dl_rules_client.proofs.NextRanges.{NextFits, any_next}
+use Rattle.dl_rules_client.proofs.OpenRanges.{OpenedFits, OpenStageFits, open_fits, open_begun, open_later, recovers_fit, FoundFits, recover_fits}
+use Rattle.dl_rules_client.proofs.OpenRanges.{recover_later, truncated_fits}
 use Rattle.dl_rules_client.proofs.LogRanges.{started_fit}
 use Rattle.dl_rules_client.proofs.ClientRanges.{StartFits, DoingFits, OrderFits, WriterFits, ReaderFits, NowFits, ActsFit, MoveFits, no_acts_fit}
 use Rattle.dl_rules_client.proofs.ClientRanges.{event_fits, shows_fit, without_fits, stays_fits, refuses_fits, waits_fits, ends_fits, goes_fits}
@@ -94,9 +95,10 @@ read_fits me n more now o (Some r) h c order is fit = reader_goes_fits me n more
 -- ---- how orders end
 
 -- a segment that an open completed
-recovered_fit : (me : ClientArgs) (more : ℕ) (s : List ℕ) (end : Option Dlsn) → IsClient me.number → IsName s → ActsFit more (recovered_acts me s end)
-recovered_fit me more s None c name = no_acts_fit more
-recovered_fit me more s (Some d) c name = shows_fit more (event.Recovered me.number s d) (c, name)
+recovered_fit : (me : ClientArgs) (more : ℕ) (s : List ℕ) (end : Option Dlsn) → IsClient me.number → IsName s → AllSome (IsPlaceFrom 0) end
+    → ActsFit more (recovered_acts me s end)
+recovered_fit me more s None c name is = no_acts_fit more
+recovered_fit me more s (Some d) c name is = shows_fit more (event.Recovered me.number s d) (c, (name, is))
 
 -- the writer that an open ends with
 new_writer_fits : (me : ClientArgs) (n : ℕ) (o : Order) (x : Opened) → IsName o.stream → OpenedFits x → WriterFits n (new_writer me o x)
@@ -121,9 +123,9 @@ ends_open_fits me n more now o acts x c name is fit acted =
     }
 
 -- what a recovery found
-found_fits : (me : ClientArgs) (s : List ℕ) (f : Found) → IsClient me.number → IsName s → FitsItsLine (found_event me s f)
-found_fits me s Whole c name = (c, name)
-found_fits me s (Completes end) c name = (c, name)
+found_fits : (me : ClientArgs) (s : List ℕ) (f : Found) → IsClient me.number → IsName s → FoundFits f → FitsItsLine (found_event me s f)
+found_fits me s Whole c name is = (c, name)
+found_fits me s (Completes end) c name is = (c, (name, is))
 
 -- where a reader starts
 opened_fits : (me : ClientArgs) (s : List ℕ) (from : Start) (point : Dlsn) → IsClient me.number → IsName s → StartFits from
@@ -157,7 +159,7 @@ open_goes_fits : (me : ClientArgs) (n more : ℕ) (now : ClientNow) (o : Order) 
 open_goes_fits me n more now o h heard c name is fit =
     let stage : OpenStage = open_stage (open_args me o) heard in
     let acts : Acts = recovered_acts me o.stream (open_recovers stage h) in
-    let acted : ActsFit more acts = recovered_fit me more o.stream (open_recovers stage h) c name in
+    let acted : ActsFit more acts = recovered_fit me more o.stream (open_recovers stage h) c name (recovers_fit stage h is) in
     goes_fits me n more now (order_doing o (Opens (h ∷ heard))) acts OpenedFits (open_hears (open_args me o) stage h).1 _ c
     (record { stream = name; doing = open_later (open_args me o) h heard is }) fit acted (open_fits (open_args me o) stage h is).1
     (λ x p. ends_open_fits me n more now o acts x c name p fit acted)
@@ -178,8 +180,10 @@ order_fits me n more now o h (Removes heard) c name is order fit =
     c (order_of me o (Removes (h ∷ heard)) name tt) fit (any_next _) (λ a p. (c, name))
 order_fits me n more now o h (Opens heard) c name is order fit = open_goes_fits me n more now o h heard c name is fit
 order_fits me n more now o h (Recovers heard) c name is order fit =
-    goes_to_fits me n more now o (Recovers (h ∷ heard)) Any (recover_hears (recover_args me o) (recover_stage (recover_args me o) heard) h).1
-    (found_event me o.stream) c (order_of me o (Recovers (h ∷ heard)) name tt) fit (any_next _) (λ a p. found_fits me o.stream a c name)
+    let args : RecoverArgs = recover_args me o in
+    goes_to_fits me n more now o (Recovers (h ∷ heard)) FoundFits (recover_hears args (recover_stage args heard) h).1 (found_event me o.stream)
+    c (order_of me o (Recovers (h ∷ heard)) name (recover_later args h heard is)) fit (recover_fits args (recover_stage args heard) h is).1
+    (λ a p. found_fits me o.stream a c name p)
 order_fits me n more now o h Commits c name is order fit = waits_fits me n more now o no_acts order fit (no_acts_fit more)
 order_fits me n more now o h Confirms c name is order fit = waits_fits me n more now o no_acts order fit (no_acts_fit more)
 order_fits me n more now o h (Closes args heard) c name is order fit =

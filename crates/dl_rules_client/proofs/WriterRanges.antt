@@ -26,9 +26,9 @@ use Rattle.dl_rules_client.specs.Writing.{entry_between, entry_of, sent_events, 
 use Rattle.dl_rules_client.specs.Writing.{appends_one, appends_many, sends, flushes, close_args, begins_close, log_goes_on, order_goes_on, after_call}
 use Rattle.dl_rules_client.specs.Writing.{begins_on_log, begins_commit, begins_confirm, writer_hears}
 use Rattle.dl_rules_client.specs.EventRanges.{FitsItsLine, ArgsFit, set_most}
-use Rattle.dl_rules_client.proofs.RangeLists.{cond_both}
+use Rattle.dl_rules_client.proofs.RangeLists.{Any, cond_both}
 use Rattle.dl_rules_client.proofs.RangeLists.{AllSome, all-append, all-map}
-use Rattle.dl_rules_client.proofs.NextRanges.{Any, any_next}
+use Rattle.dl_rules_client.proofs.NextRanges.{any_next}
 use Rattle.dl_rules_client.proofs.LogRanges.{IsRow, LogFits, LogMoveFits, CallFits, EntryFits, IsTaken, IsCall, ToldUpTo, log_more, appends_fit}
 use Rattle.dl_rules_client.proofs.LogRanges.{sets_fit, flush_fit, commit_fit, close_fit, hears_fit, called_fit, told_fit, state_fit, last_entry_fit}
 use Rattle.dl_rules_client.proofs.ClientRanges.{DoingFits, OrderFits, WriterFits, NowFits, SentFits, ActsFit, MoveFits, now_more}

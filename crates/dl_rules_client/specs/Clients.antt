@@ -18,7 +18,8 @@ use Rattle.dl_rules_stream.specs.Recovers.{recover_first}
 use Rattle.dl_rules_stream.specs.Truncates.{truncate_first}
 use Rattle.dl_rules_stream.specs.Purges.{purge_first}
 use Rattle.dl_rules_client.specs.Acts.{Input, Line, Came, ClientArgs, Acts, no_acts}
-use Rattle.dl_rules_client.specs.Views.{Makes, Removes, Recovers, Truncates, Purges, Order, WriterView, ClientNow, ClientMove, new_client, stays, recover_args, truncate_args, log_now}
+use Rattle.dl_rules_client.specs.Views.{Makes, Removes, Recovers, Truncates, Purges, Order, WriterView, ClientNow, ClientMove, new_client, stays}
+use Rattle.dl_rules_client.specs.Views.{recover_args, truncate_args, log_now}
 use Rattle.dl_rules_client.specs.Moves.{refusal_event, refuses, ends_with}
 use Rattle.dl_rules_client.specs.Writing.{appends_one, appends_many, flushes, begins_commit, begins_confirm, writer_hears, confirmation_of, has_nothing_to_send}
 use Rattle.dl_rules_client.specs.Orders.{begins, begins_seek, begins_open, begins_read, order_hears}

@@ -10,7 +10,8 @@ use Rattle.dl_transcript.specs.declared.event.Event.TheVariants as event
 use Rattle.dl_rules_stream.specs.Requests.{Request, op_of}
 use Rattle.dl_rules_stream.specs.Orders.{Next, Wait, Ask, Tell, Done, Refused}
 use Rattle.dl_rules_client.specs.Acts.{ClientArgs, Acts, with_letters, with_event, shows}
-use Rattle.dl_rules_client.specs.Views.{Doing, Makes, Removes, Opens, Recovers, Commits, Confirms, Closes, Seeks, Reads, Truncates, Purges, Order, WriterView, ClientNow, ClientMove, stays}
+use Rattle.dl_rules_client.specs.Views.{Doing, Makes, Removes, Opens, Recovers, Commits, Confirms, Closes, Seeks, Reads, Truncates, Purges, Order}
+use Rattle.dl_rules_client.specs.Views.{WriterView, ClientNow, ClientMove, stays}
 
 -- ---- letters and refusals
 

@@ -19,7 +19,9 @@ use Rattle.dl_rules_stream.specs.Truncates.{truncate_hears, truncate_stage}
 use Rattle.dl_rules_stream.specs.Purges.{purge_hears, purge_stage}
 use Rattle.dl_rules_stream.specs.LogReaders.{LogReaderCall, Reads as CallsRead, HearsAll, reader_move}
 use Rattle.dl_rules_client.specs.Acts.{ClientArgs, Acts, no_acts, with_event, shows}
-use Rattle.dl_rules_client.specs.Views.{Doing, Makes, Removes, Opens, Recovers, Commits, Confirms, Closes, Seeks, Reads, Truncates, Purges, Order, WriterView, ReaderView, ClientNow, ClientMove, stays, open_args, recover_args, truncate_args, order_doing, new_writer, with_writer, reader_now, with_reader_call, new_reader, with_reader}
+use Rattle.dl_rules_client.specs.Views.{Doing, Makes, Removes, Opens, Recovers, Commits, Confirms, Closes, Seeks, Reads, Truncates, Purges, Order}
+use Rattle.dl_rules_client.specs.Views.{WriterView, ReaderView, ClientNow, ClientMove, stays, open_args, recover_args, truncate_args, order_doing}
+use Rattle.dl_rules_client.specs.Views.{new_writer, with_writer, reader_now, with_reader_call, new_reader, with_reader}
 use Rattle.dl_rules_client.specs.Moves.{refuses, without_order, ends_with, waits, goes_on}
 
 -- ---- how orders begin
