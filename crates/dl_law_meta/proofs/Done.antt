@@ -50,7 +50,8 @@ pub record IsSetAt (t : Nodes) (path bytes : List ℕ) (named : Option ℕ) (u :
   pub is : u ≡ insert t path (set_node bytes old)
 
 -- a set that is done has set its node
-set_is : (t : Nodes) (path bytes : List ℕ) (named : Option ℕ) (r : OneAnswer × Nodes) (o : Option Node) → get t path ≡ o → set_outcome t path bytes named o ≡ Ok r
+set_is : (t : Nodes) (path bytes : List ℕ) (named : Option ℕ) (r : OneAnswer × Nodes) (o : Option Node) → get t path ≡ o
+    → set_outcome t path bytes named o ≡ Ok r
     → IsSetAt t path bytes named r.1
 set_is t path bytes named r None k e = absurd (cc)
 set_is t path bytes named r (Some n) k e =
@@ -65,7 +66,8 @@ unfolding outcome_of
 set_done t session path bytes named r e = set_is t path bytes named r (get t path) refl e
 
 -- the answer tells the version of the node that was set
-set_tells : (t : Nodes) (path bytes : List ℕ) (named : Option ℕ) (r : OneAnswer × Nodes) (o : Option Node) → get t path ≡ o → set_outcome t path bytes named o ≡ Ok r
+set_tells : (t : Nodes) (path bytes : List ℕ) (named : Option ℕ) (r : OneAnswer × Nodes) (o : Option Node) → get t path ≡ o
+    → set_outcome t path bytes named o ≡ Ok r
     → (n : Node) → get t path ≡ Some n → r.0 ≡ Version (n.version + 1)
 set_tells t path bytes named r None k e n f = absurd (cc)
 set_tells t path bytes named r (Some m) k e n f =

@@ -111,7 +111,12 @@ pub set_at : (t : Nodes) (session : ℕ) (k : Key) (bytes : List ℕ) (named : O
     → outcome_of t session (Set (path_of k) bytes named) ≡ Ok a → SetAt t a.1 k named bytes
 set_at t session k bytes named h a e =
     let d = set_done t session (path_of k) bytes named a e in
-    record { old = d.old; was = d.there; fitting = d.fitting; puts = record { at = λ m g. ap (λ (x : Nodes). node x m) d.is ∙ insert_by_key t k (set_node bytes d.old) m h g } }
+    record {
+      old = d.old;
+      was = d.there;
+      fitting = d.fitting;
+      puts = record { at = λ m g. ap (λ (x : Nodes). node x m) d.is ∙ insert_by_key t k (set_node bytes d.old) m h g };
+    }
 
 -- a node is made at a key, below another
 pub record MadeAt (t u : Nodes) (k p : Key) (new : Node) : Type 0 where
@@ -196,7 +201,8 @@ count_at t session stem mode bytes p kid h c up named each a e =
       puts = record {
         at = λ m i.
             ap (λ (x : Nodes). node x m)
-            (d.is ∙ ap₂ (λ (q : List ℕ) (n : Node). insert (insert t q n) (made_path stem mode d.parent) (new_node bytes mode session)) up (counted_node mode d.parent c)
+            (d.is ∙ ap₂ (λ (q : List ℕ) (n : Node). insert (insert t q n) (made_path stem mode d.parent) (new_node bytes mode session)) up
+            (counted_node mode d.parent c)
             ∙ ap (λ (q : List ℕ). insert (insert t (path_of p) (counted d.parent)) q (new_node bytes mode session)) path)
             ∙ insert_by_key (insert t (path_of p) (counted d.parent)) (kid d.parent.counter) (new_node bytes mode session) m key i;
       };
@@ -222,11 +228,18 @@ pub record DeletedAt (t u : Nodes) (k : Key) (named : Option ℕ) : Type 0 where
   pub puts : Puts t u k None
 
 -- what a delete at a key leaves
-pub delete_at : (t : Nodes) (session : ℕ) (k : Key) (named : Option ℕ) → IsKey k → (a : OneAnswer × Nodes) → outcome_of t session (Delete (path_of k) named) ≡ Ok a
+pub delete_at : (t : Nodes) (session : ℕ) (k : Key) (named : Option ℕ) → IsKey k → (a : OneAnswer × Nodes)
+    → outcome_of t session (Delete (path_of k) named) ≡ Ok a
     → DeletedAt t a.1 k named
 delete_at t session k named h a e =
     let d = delete_done t session (path_of k) named a e in
-    record { old = d.old; was = d.there; fitting = d.fitting; childless = d.childless; puts = record { at = λ m g. ap (λ (x : Nodes). node x m) d.is ∙ remove_by_key t k m h g } }
+    record {
+      old = d.old;
+      was = d.there;
+      fitting = d.fitting;
+      childless = d.childless;
+      puts = record { at = λ m g. ap (λ (x : Nodes). node x m) d.is ∙ remove_by_key t k m h g };
+    }
 
 -- a node at a path was found, and the tree is as it was
 pub record FoundAt (t u : Nodes) (path : List ℕ) (named : Option ℕ) : Type 0 where

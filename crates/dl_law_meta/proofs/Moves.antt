@@ -93,7 +93,8 @@ next_number x = (ap counter_in x.was ∙ x.given, ap counter_in x.now ∙ ap (λ
 leaves_moves : (t u : Nodes) (session : ℕ) (r : Request) (a : MetaAnswer) → IsInForm r → Leaves t session r a u → (m : Key) → IsKey m → MovesAt t u m
 leaves_moves t u session (MakeStream s) a f x m h =
     moves_by t u _ x.others
-    (new_moves _ x.stream tt, (new_moves _ x.maxseq tt, (new_moves _ x.cut tt, (new_moves _ x.alloc tt, (new_moves _ x.locks tt, (new_moves _ x.segs tt, tt)))))) m h
+    (new_moves _ x.stream tt,
+    (new_moves _ x.maxseq tt, (new_moves _ x.cut tt, (new_moves _ x.alloc tt, (new_moves _ x.locks tt, (new_moves _ x.segs tt, tt)))))) m h
 leaves_moves t u session (MakeAgain s) a f x m h = moves_by t u _ x.others (new_moves _ x.locks tt, (new_moves _ x.segs tt, tt)) m h
 leaves_moves t u session (RemoveStream s) a f x m h = moves_by t u _ x.others (gone_moves x.locks tt, (gone_moves x.segs tt, tt)) m h
 leaves_moves t u session (MakeMember s) a f x m h =
@@ -138,7 +139,8 @@ root_none k =
 
 -- the nodes of the tree with which a configuration begins
 first_at : (c : conf.Conf) (k : Key) → IsKey k
-    → node (first_tree c) k ≡ cond (is_key k Ledgers) (Some (lasting [])) (cond (is_key k Streams) (Some (lasting [])) (cond (is_key k Conf) (Some (lasting (conf_bytes c))) None))
+    → node (first_tree c) k
+        ≡ cond (is_key k Ledgers) (Some (lasting [])) (cond (is_key k Streams) (Some (lasting [])) (cond (is_key k Conf) (Some (lasting (conf_bytes c))) None))
 first_at c k h =
     insert_by_key (with_node (with_node root_alone Conf (conf_bytes c)) Streams []) Ledgers (lasting []) k tt h
     ∙ ap (cond (is_key k Ledgers) (Some (lasting [])))
@@ -168,7 +170,8 @@ first_moves : (u : Nodes) (c : conf.Conf) (k : Key) → IsKey k → node u k ≡
 first_moves u c k h e = go k h (is_key k Ledgers) (is_key k Streams) (is_key k Conf) (e ∙ first_at c k h) refl refl refl
   where
     go : (k : Key) → IsKey k → (a b d : Bool)
-        → node u k ≡ cond (is_key k Ledgers) (Some (lasting [])) (cond (is_key k Streams) (Some (lasting [])) (cond (is_key k Conf) (Some (lasting (conf_bytes c))) None))
+        → node u k ≡ cond (is_key k Ledgers) (Some (lasting []))
+        (cond (is_key k Streams) (Some (lasting [])) (cond (is_key k Conf) (Some (lasting (conf_bytes c))) None))
         → is_key k Ledgers ≡ a → is_key k Streams ≡ b → is_key k Conf ≡ d → MovesAt root_alone u k
     go Conf h a b d w x y z = between (root_none Conf) w (is_made (conf_bytes c) tt)
     go Streams h a b d w x y z = between (root_none Streams) w (is_made [] tt)

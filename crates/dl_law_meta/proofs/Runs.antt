@@ -173,7 +173,12 @@ ran_here (Connect s) older k n e = absurd (cc)
 ran_here (Expire s) older k n e = absurd (cc)
 ran_here (Ask s m o) older k n e =
     let p = and_parts (s == k) (m == n) e in
-    record { newer = []; older = older; op = o; parts = ap (λ (y : ℕ). Ask y m o ∷ older) (eqb-true s k p.0) ∙ ap (λ (y : ℕ). Ask k y o ∷ older) (eqb-true m n p.1) }
+    record {
+      newer = [];
+      older = older;
+      op = o;
+      parts = ap (λ (y : ℕ). Ask y m o ∷ older) (eqb-true s k p.0) ∙ ap (λ (y : ℕ). Ask k y o ∷ older) (eqb-true m n p.1);
+    }
 
 -- a number that ran before ran
 ran_before : (x : MetaItem) (older : List MetaItem) (k n : ℕ) → RanAt older k n → RanAt (x ∷ older) k n

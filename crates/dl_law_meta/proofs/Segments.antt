@@ -123,12 +123,17 @@ dropped_by : (t u v : Nodes) (s : List ℕ) (segment ledger : ℕ) → NoSlash s
     → DeletedAt t u (Completed s segment) None → DeletedAt u v (Ledger ledger) None → SegmentDropped t v s segment ledger
 dropped_by t u v s segment ledger name k l d e =
     let after = put_before e.puts nothing_changed in
-    record { completed = gone_by nothing_changed d after (name, k) refl refl; ledger_gone = gone_by (put_behind nothing_changed d.puts) e nothing_changed l refl refl; others = put_before d.puts after }
+    record {
+      completed = gone_by nothing_changed d after (name, k) refl refl;
+      ledger_gone = gone_by (put_behind nothing_changed d.puts) e nothing_changed l refl refl;
+      others = put_before d.puts after;
+    }
 
 -- what the request to drop a segment leaves
 pub segment_dropped : (t : Nodes) (session : ℕ) (s : List ℕ) (segment ledger : ℕ) (r : List OneAnswer × Nodes) → NoSlash s → HasTenDigits segment
     → HasTenDigits ledger
-    → run_of t session 0 (Delete (path_of (Completed s segment)) None ∷ Delete (path_of (Ledger ledger)) None ∷ []) ≡ Ok r → SegmentDropped t r.1 s segment ledger
+    → run_of t session 0 (Delete (path_of (Completed s segment)) None ∷ Delete (path_of (Ledger ledger)) None ∷ []) ≡ Ok r
+    → SegmentDropped t r.1 s segment ledger
 segment_dropped t session s segment ledger r name k l e =
     let a = goes (λ u. DeletedAt t u (Completed s segment) None) t session 0 _ _ r (delete_at t session (Completed s segment) None (name, k)) e in
     let b = goes (λ u. DeletedAt a.next u (Ledger ledger) None) a.next session 1 _ _ (a.answers, r.1)

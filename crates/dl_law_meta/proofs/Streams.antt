@@ -48,7 +48,9 @@ made_by t a b c d e f s name m1 m2 m3 m4 m5 m6 =
 
 -- what the request to make a stream leaves
 pub stream_made : (t : Nodes) (session : ℕ) (s : List ℕ) (r : List OneAnswer × Nodes) → NoSlash s
-    → run_of t session 0 (makes (Stream s) [] ∷ makes (MaxSeq s) (maxseq_node 0 0) ∷ makes (Cut s) (cut_node first_place) ∷ makes (Alloc s) (alloc_node None) ∷ makes (Locks s) [] ∷ makes (Segs s) [] ∷ []) ≡ Ok r → StreamMade t r.1 s
+    → run_of t session 0 (makes (Stream s) [] ∷ makes (MaxSeq s) (maxseq_node 0 0) ∷ makes (Cut s) (cut_node first_place)
+        ∷ makes (Alloc s) (alloc_node None) ∷ makes (Locks s) [] ∷ makes (Segs s) [] ∷ []) ≡ Ok r
+    → StreamMade t r.1 s
 stream_made t session s r name e =
     let a = goes (λ u. MadeAt t u (Stream s) Streams (lasting [])) t session 0 _ _ r (make_at t session (Stream s) Streams [] name tt refl) e in
     let b = goes (λ u. MadeAt a.next u (MaxSeq s) (Stream s) (lasting (maxseq_node 0 0))) a.next session 1 _ _ (a.answers, r.1)
@@ -71,7 +73,12 @@ again_by : (t a b : Nodes) (s : List ℕ) → NoSlash s → MadeAt t a (Locks s)
     → StreamMadeAgain t b s
 again_by t a b s name m1 m2 =
     let after = put_before m2.puts nothing_changed in
-    record { parent = m1.parent; locks = new_by nothing_changed m1 after name refl refl; segs = new_by (put_behind nothing_changed m1.puts) m2 nothing_changed name refl refl; others = put_before m1.puts after }
+    record {
+      parent = m1.parent;
+      locks = new_by nothing_changed m1 after name refl refl;
+      segs = new_by (put_behind nothing_changed m1.puts) m2 nothing_changed name refl refl;
+      others = put_before m1.puts after;
+    }
 
 -- what the request to make a stream again leaves
 pub stream_made_again : (t : Nodes) (session : ℕ) (s : List ℕ) (r : List OneAnswer × Nodes) → NoSlash s
@@ -113,7 +120,13 @@ pub member_made : (t : Nodes) (session : ℕ) (s : List ℕ) (r : OneAnswer × N
     → outcome_of t session (Create (member_stem s) [] EphemeralCounted) ≡ Ok r → MemberMade t r.1 session s (answer.One r.0)
 member_made t session s r name e =
     let x = member_at t session s name r e in
-    record { number = x.number; locks = counted_by x name refl; member = kid_by x (name, x.room); told = ap (λ (a : OneAnswer). answer.One a) x.answer; others = counted_others x }
+    record {
+      number = x.number;
+      locks = counted_by x name refl;
+      member = kid_by x (name, x.room);
+      told = ap (λ (a : OneAnswer). answer.One a) x.answer;
+      others = counted_others x;
+    }
 
 -- what the request to leave a lock leaves
 pub member_left : (t : Nodes) (session : ℕ) (s : List ℕ) (n : ℕ) (r : OneAnswer × Nodes) → IsKey (Member s n)
@@ -129,4 +142,9 @@ pub cut_set : (t : Nodes) (session : ℕ) (s : List ℕ) (point : Dlsn) (version
     → outcome_of t session (Set (path_of (Cut s)) (cut_node point) (Some version)) ≡ Ok r → CutSet t r.1 s point version (answer.One r.0)
 cut_set t session s point version r name e =
     let d = set_at t session (Cut s) (cut_node point) (Some version) name r e in
-    record { cut = set_by nothing_changed d nothing_changed name refl refl; told = ap (λ (a : OneAnswer). answer.One a) (set_told t session (path_of (Cut s)) (cut_node point) (Some version) r e d.old d.was ∙ ap (λ (v : ℕ). Version (v + 1)) d.fitting); others = put_before d.puts nothing_changed }
+    record {
+      cut = set_by nothing_changed d nothing_changed name refl refl;
+      told = ap (λ (a : OneAnswer). answer.One a)
+          (set_told t session (path_of (Cut s)) (cut_node point) (Some version) r e d.old d.was ∙ ap (λ (v : ℕ). Version (v + 1)) d.fitting);
+      others = put_before d.puts nothing_changed;
+    }

@@ -61,5 +61,6 @@ pub several_read : (t : Nodes) (session : ℕ) (xs : List Reading) (r : List One
 several_read t session xs r e = let a = all_read t session 0 xs r e in record { same = a.1; told = a.0 }
 
 -- the same of a request of one reading
-pub single_read : (t : Nodes) (session : ℕ) (x : Reading) (a : OneAnswer × Nodes) → outcome_of t session (reads x) ≡ Ok a → OnlyReads t a.1 (answer.One a.0) (x ∷ [])
+pub single_read : (t : Nodes) (session : ℕ) (x : Reading) (a : OneAnswer × Nodes) → outcome_of t session (reads x) ≡ Ok a
+    → OnlyReads t a.1 (answer.One a.0) (x ∷ [])
 single_read t session x a e = let r = one_reads t session x a e in record { same = r.1; told = (r.0, tt) }

@@ -1,10 +1,11 @@
 -- Each event of a run fits its line.
-use Rattle.std.proofs.Common.{◌≡◌, ℕ, zero, suc, ◌+◌, ◌≤◌, Bool, true, false, List, [], ◌∷◌, ◌++◌, length, map, Option, Some, None, refl, sym, ap, ◌∙◌}
+use Rattle.std.proofs.Common.{◌≡◌, ℕ, zero, suc, ◌+◌, ◌≤◌, Bool, true, false, List, [], ◌∷◌, ◌++◌, length, map, Option, Some, None, refl, sym, ap, ◌∙◌, ◌*◌}
 use Rattle.std.proofs.Common.{subst, Result, Ok, Err, append_assoc, arith}
 use Rattle.std.specs.List.{AllByRecursion}
 use Rattle.std.specs.Prelude.{nat_lt}
 use Rattle.std.proofs.lemmas.Bool.{ltb-false}
 use Rattle.dl_types.specs.declared.limit.LimitName.TheVariants as limit
+use Rattle.dl_text.specs.Numbers.{most_u64}
 use Rattle.dl_text.specs.TextLines.{lines_of}
 use Rattle.dl_schedule.specs.StepReading.{parsed_line}
 use Rattle.dl_schedule.proofs.StepExactness.{step_exact}
@@ -33,7 +34,7 @@ use Rattle.dl_machine.specs.Laws.{turns_on, turns}
 use Rattle.dl_machine.specs.RangeLaws.{FitsAtLine, FittingText, EventsFitTheirLines}
 use Rattle.dl_machine.proofs.Movements.{cond_both}
 use Rattle.dl_machine.proofs.FateLaws.{failures_aside}
-use Rattle.dl_machine.proofs.StateRanges.{StateFits, state_more, IsAtom, cost, atom_fits}
+use Rattle.dl_machine.proofs.StateRanges.{StateFits, state_more, IsAtom, cost, takings, atom_fits}
 
 -- ---- atomic steps in order
 
@@ -42,130 +43,154 @@ abbrev costs : List Atom → ℕ
 costs [] = 0
 costs (a ∷ xs) = cost a + costs xs
 
+-- how many lines and letters are taken by atomic steps
+abbrev all_takings : List Atom → ℕ
+all_takings [] = 0
+all_takings (a ∷ xs) = takings a + all_takings xs
+
 -- The state behind atomic steps, and what they show.
-record RowFits (lines : ℕ) (s : State) (xs : List Atom) : Type 0 where
-  state : StateFits lines (after s xs)
+record RowFits (lines inputs : ℕ) (s : State) (xs : List Atom) : Type 0 where
+  state : StateFits lines inputs (after s xs)
   shown : AllByRecursion FitsItsLine (events s xs)
 
 -- atomic steps in a row
-row_fits : (n m : ℕ) (s : State) (xs : List Atom) → n + costs xs ≤ m → m ≤ most_lines → AllByRecursion IsAtom xs → StateFits n s → RowFits m s xs
+row_fits : (n m i j : ℕ) (s : State) (xs : List Atom) → n + costs xs ≤ m → i + all_takings xs ≤ j → m ≤ most_lines → j ≤ most_u64
+    → AllByRecursion IsAtom xs → StateFits n i s → RowFits m j s xs
 unfolding after events
-row_fits n m s [] h few is fit = record { state = state_more n m s (omega (arith, h)) fit; shown = tt }
-row_fits n m s (a ∷ xs) h few is fit =
+row_fits n m i j s [] h g few small is fit = record { state = state_more n m i j s (omega (arith, h)) (omega (arith, g)) fit; shown = tt }
+row_fits n m i j s (a ∷ xs) h g few small is fit =
     let here : n + cost a ≤ m = omega (arith, h) in
     let rest : (n + cost a) + costs xs ≤ m = omega (arith, h) in
-    let now = atom_fits n (n + cost a) s a (omega arith) (omega (arith, here, few)) is.0 fit in
-    let later = row_fits (n + cost a) m (atom s a).state xs rest few is.1 now.state in
+    let taken : i + takings a ≤ j = omega (arith, g) in
+    let others : (i + takings a) + all_takings xs ≤ j = omega (arith, g) in
+    let now = atom_fits n (n + cost a) i (i + takings a) s a (omega arith) (omega arith) (omega (arith, here, few)) (omega (arith, taken, small)) is.0 fit in
+    let later = row_fits (n + cost a) m (i + takings a) j (atom s a).state xs rest others few small is.1 now.state in
     record { state = later.state; shown = all-append FitsItsLine (atom s a).events (events (atom s a).state xs) now.events later.shown }
 
 -- ---- the atomic steps of a line
+
+-- more lines and letters than are taken by one line
+abbrev pub line_takings : ℕ
+line_takings = 2000003
 
 -- The atomic steps of a line: they count for one at most.
 record LineFits (xs : List Atom) : Type 0 where
   each : AllByRecursion IsAtom xs
   few : costs xs ≤ 1
+  taken : all_takings xs ≤ line_takings
 
--- Atomic steps that count for none.
-record AreFree (xs : List Atom) : Type 0 where
+-- Atomic steps that count for none, and by which at most so many letters are taken.
+record AreFree (most : ℕ) (xs : List Atom) : Type 0 where
   each : AllByRecursion IsAtom xs
   free : costs xs ≡ 0
+  taken : all_takings xs ≤ most
 
 -- steps that count for none are those of a line
-free_line : (xs : List Atom) → AreFree xs → LineFits xs
-free_line xs h = record { each = h.each; few = omega (arith, h.free) }
+free_line : (most : ℕ) (xs : List Atom) → most ≤ line_takings → AreFree most xs → LineFits xs
+free_line most xs g h = record { each = h.each; few = omega (arith, h.free); taken = omega (arith, g, h.taken) }
 
 -- one step
-one_fits : (a : Atom) → IsAtom a → cost a ≤ 1 → LineFits (a ∷ [])
-one_fits a is few = record { each = (is, tt); few = omega (arith, few) }
+one_fits : (a : Atom) → IsAtom a → cost a ≤ 1 → takings a ≤ 1 → LineFits (a ∷ [])
+one_fits a is few taken = record { each = (is, tt); few = omega (arith, few); taken = omega (arith, taken) }
 
 -- steps that count for none, and others behind them
-free-append : (xs ys : List Atom) → AreFree xs → AreFree ys → AreFree (xs ++ ys)
-free-append [] ys a b = b
-free-append (x ∷ xs) ys a b =
+free-append : (n m : ℕ) (xs ys : List Atom) → AreFree n xs → AreFree m ys → AreFree (n + m) (xs ++ ys)
+free-append n m [] ys a b = record { each = b.each; free = b.free; taken = omega (arith, b.taken) }
+free-append n m (x ∷ xs) ys a b =
     let none : costs xs ≡ 0 = omega (arith, a.free) in
     let cheap : cost x ≡ 0 = omega (arith, a.free) in
-    let rest = free-append xs ys (record { each = a.each.1; free = none }) b in
-    record { each = (a.each.0, rest.each); free = omega (arith, cheap, rest.free) }
+    let rest = free-append (all_takings xs) m xs ys (record { each = a.each.1; free = none; taken = omega arith }) b in
+    record { each = (a.each.0, rest.each); free = omega (arith, cheap, rest.free); taken = omega (arith, a.taken, rest.taken) }
 
 -- links are shown
-mails_fit : (ms : List Mail) → AreFree (map Shows (map (λ (m : Mail). event.Mail m.from m.to m.count) ms))
-mails_fit [] = record { each = tt; free = refl }
-mails_fit (m ∷ ms) = let rest = mails_fit ms in record { each = (tt, rest.each); free = omega (arith, rest.free) }
+mails_fit : (ms : List Mail) → AreFree 0 (map Shows (map (λ (m : Mail). event.Mail m.from m.to m.count) ms))
+mails_fit [] = record { each = tt; free = refl; taken = omega arith }
+mails_fit (m ∷ ms) = let rest = mails_fit ms in record { each = (tt, rest.each); free = omega (arith, rest.free); taken = omega (arith, rest.taken) }
 
 -- a letter is delivered
 deliver_fits : (place : Option ℕ) → LineFits (at_place Deliver place)
-deliver_fits None = record { each = tt; few = omega arith }
-deliver_fits (Some place) = one_fits (Deliver place) tt (omega arith)
+deliver_fits None = record { each = tt; few = omega arith; taken = omega arith }
+deliver_fits (Some place) = one_fits (Deliver place) tt (omega arith) (omega arith)
 
 -- the metadata node stops on a letter
 stop_fits : (kept : Bool) (place : Option ℕ) → LineFits (at_place (λ place. StopMeta place kept) place)
-stop_fits kept None = record { each = tt; few = omega arith }
-stop_fits kept (Some place) = one_fits (StopMeta place kept) tt (omega arith)
+stop_fits kept None = record { each = tt; few = omega arith; taken = omega arith }
+stop_fits kept (Some place) = one_fits (StopMeta place kept) tt (omega arith) (omega arith)
 
 -- a node goes down
 kill_fits : (x : target.Node) → LineFits (kill_of x ∷ [])
-kill_fits (node.Bookie b) = one_fits (Kill b) tt (omega arith)
-kill_fits node.Meta = one_fits KillMeta tt (omega arith)
+kill_fits (node.Bookie b) = one_fits (Kill b) tt (omega arith) (omega arith)
+kill_fits node.Meta = one_fits KillMeta tt (omega arith) (omega arith)
 
 -- a node is loaded
 rise_fits : (x : target.Node) → LineFits (rise_of x ∷ [])
-rise_fits (node.Bookie b) = one_fits (Rise b) tt (omega arith)
-rise_fits node.Meta = one_fits RiseMeta tt (omega arith)
+rise_fits (node.Bookie b) = one_fits (Rise b) tt (omega arith) (omega arith)
+rise_fits node.Meta = one_fits RiseMeta tt (omega arith) (omega arith)
 
 -- a client takes a line
 order_fits : (line : ℕ) (x : Step) (c : Option ℕ) → IsStep x → LineFits (order_of line x c)
-order_fits line x None is = record { each = tt; few = omega arith }
-order_fits line x (Some c) is = one_fits (Order c line x) is (omega arith)
+order_fits line x None is = record { each = tt; few = omega arith; taken = omega arith }
+order_fits line x (Some c) is = one_fits (Order c line x) is (omega arith) (omega arith)
 
 -- the atomic steps of a line that doesn't settle
 plain_fits : (s : State) (line : ℕ) (x : Step) → IsStep x → LineFits (plain_atoms s line x)
 unfolding plain_atoms
-plain_fits s line (step.Setup b e w a) is = one_fits (SetUp (conf_of b e w a)) tt (omega arith)
-plain_fits s line (step.Join c) is = one_fits (Join c) is (omega arith)
-plain_fits s line (step.Crash c) is = one_fits (Crash c) tt (omega arith)
-plain_fits s line (step.Expire k) is = one_fits (End k) is (omega arith)
+plain_fits s line (step.Setup b e w a) is = one_fits (SetUp (conf_of b e w a)) tt (omega arith) (omega arith)
+plain_fits s line (step.Join c) is = one_fits (Join c) is (omega arith) (omega arith)
+plain_fits s line (step.Crash c) is = one_fits (Crash c) tt (omega arith) (omega arith)
+plain_fits s line (step.Expire k) is = one_fits (End k) is (omega arith) (omega arith)
 plain_fits s line (step.Deliver from to n) is = deliver_fits (place_of s.letters from to n)
-plain_fits s line (step.Sync b) is = one_fits (Commit b) tt (omega arith)
-plain_fits s line (step.Lose b) is = one_fits (Lose b) tt (omega arith)
-plain_fits s line (step.Stop b call kept) is = one_fits (Stop b (is_kept call kept)) tt (omega arith)
+plain_fits s line (step.Sync b) is = one_fits (Commit b) tt (omega arith) (omega arith)
+plain_fits s line (step.Lose b) is = one_fits (Lose b) tt (omega arith) (omega arith)
+plain_fits s line (step.Stop b call kept) is = one_fits (Stop b (is_kept call kept)) tt (omega arith) (omega arith)
 plain_fits s line (step.StopMeta c n call kept) is = stop_fits (is_kept call kept) _
 plain_fits s line (step.Kill x) is = kill_fits x
 plain_fits s line (step.Up x) is = rise_fits x
-plain_fits s line step.Settle is = record { each = tt; few = omega arith }
-plain_fits s line step.Mail is = free_line _ (mails_fit (links s.letters))
+plain_fits s line step.Settle is = record { each = tt; few = omega arith; taken = omega arith }
+plain_fits s line step.Mail is = free_line 0 _ (omega arith) (mails_fit (links s.letters))
 plain_fits s line x is = order_fits line x (client_in x) is
 
 -- ---- settling
 
 -- storage nodes commit
-commits_free : (bookies : List ℕ) → AreFree (map Commit bookies)
-commits_free [] = record { each = tt; free = refl }
-commits_free (b ∷ bs) = let rest = commits_free bs in record { each = (tt, rest.each); free = omega (arith, rest.free) }
+commits_free : (bookies : List ℕ) → AreFree 0 (map Commit bookies)
+commits_free [] = record { each = tt; free = refl; taken = omega arith }
+commits_free (b ∷ bs) = let rest = commits_free bs in record { each = (tt, rest.each); free = omega (arith, rest.free); taken = omega (arith, rest.taken) }
 
 -- a turn of settling
-turn_by_free : (s : State) (place : Option ℕ) → AreFree (turn_by s place)
-turn_by_free s None = commits_free (nodes_due s (bookies_of s.conf))
-turn_by_free s (Some place) = record { each = (tt, tt); free = refl }
+turn_by_free : (s : State) (place : Option ℕ) → AreFree 1 (turn_by s place)
+turn_by_free s None =
+    let commits = commits_free (nodes_due s (bookies_of s.conf)) in
+    record { each = commits.each; free = commits.free; taken = omega (arith, commits.taken) }
+turn_by_free s (Some place) = record { each = (tt, tt); free = refl; taken = omega arith }
 
--- the same
-turn_free : (s : State) → AreFree (turn s)
+-- the same by the first letter that is due
+turn_free : (s : State) → AreFree 1 (turn s)
 unfolding turn
 turn_free s = turn_by_free s (next_letter s 0 s.letters)
 
 -- a turn, and those behind it
-turns_on_free : (s : State) (xs : List Atom) (rest : State → List Atom) → AreFree xs → ((t : State) → AreFree (rest t)) → AreFree (turns_on s xs rest)
-turns_on_free s [] rest a later = a
-turns_on_free s (x ∷ xs) rest a later = free-append (x ∷ xs) (rest (after s (x ∷ xs))) a (later (after s (x ∷ xs)))
+turns_on_free : (n : ℕ) (s : State) (xs : List Atom) (rest : State → List Atom) → AreFree 1 xs → ((t : State) → AreFree n (rest t))
+    → AreFree (suc n) (turns_on s xs rest)
+turns_on_free n s [] rest a later = record { each = a.each; free = a.free; taken = omega arith }
+turns_on_free n s (x ∷ xs) rest a later =
+    let both = free-append 1 n (x ∷ xs) (rest (after s (x ∷ xs))) a (later (after s (x ∷ xs))) in
+    record { each = both.each; free = both.free; taken = omega (arith, both.taken) }
 
 -- so many turns
-turns_free : (n : ℕ) (s : State) → AreFree (turns n s)
+turns_free : (n : ℕ) (s : State) → AreFree n (turns n s)
 unfolding turns
-turns_free zero s = record { each = tt; free = refl }
-turns_free (suc n) s = turns_on_free s (turn s) (turns n) (turn_free s) (turns_free n)
+turns_free zero s = record { each = tt; free = refl; taken = omega arith }
+turns_free (suc n) s = turns_on_free n s (turn s) (turns n) (turn_free s) (turns_free n)
+
+-- a settling has at most so many turns
+limit_most : turn_limit ≤ line_takings
+unfolding turn_limit
+limit_most = omega arith
 
 -- a settling
 settle_fits : (s : State) → LineFits (settles well turn_limit 0 s)
-settle_fits s = subst LineFits (sym (failures_aside.settling turn_limit 0 s)) (free_line (turns turn_limit s) (turns_free turn_limit s))
+settle_fits s = subst LineFits (sym (failures_aside.settling turn_limit 0 s)) (free_line turn_limit (turns turn_limit s) limit_most (turns_free turn_limit s))
 
 -- ---- lines
 
@@ -182,7 +207,7 @@ busy_fits s line x is = lucky_fits s line x is
 line_fits : (s : State) (line : ℕ) (x : Step) → IsStep x → LineFits (line_atoms well s line x)
 unfolding line_atoms
 line_fits s line x is =
-    cond_both LineFits (is_idle s x) (Shows event.Nothing ∷ []) (busy_atoms well s line x) (one_fits (Shows event.Nothing) tt (omega arith))
+    cond_both LineFits (is_idle s x) (Shows event.Nothing ∷ []) (busy_atoms well s line x) (one_fits (Shows event.Nothing) tt (omega arith) (omega arith))
     (busy_fits s line x is)
 
 -- ---- runs
@@ -192,8 +217,15 @@ numbered_fits : (line : ℕ) (es : List Event) → IsU32 line → AllByRecursion
 numbered_fits line [] number each = tt
 numbered_fits line (e ∷ es) number each = ((number, each.0), numbered_fits line es number each.1)
 
+-- the atomic steps of a line, behind so many lines
+row_behind : (n : ℕ) (s : State) (xs : List Atom) → suc n ≤ most_lines → LineFits xs → StateFits n (line_takings * n) s
+    → RowFits (suc n) (line_takings * suc n) s xs
+row_behind n s xs few its fit =
+    row_fits n (suc n) (line_takings * n) (line_takings * suc n) s xs (omega (arith, its.few)) (omega (arith, its.taken)) few (omega (arith, few)) its.each fit
+
 -- a run behind so many lines
-run_fits : (n : ℕ) (s : State) (line : ℕ) (xs : List Step) → line ≡ suc n → n + length xs ≤ most_lines → AllByRecursion IsStep xs → StateFits n s
+run_fits : (n : ℕ) (s : State) (line : ℕ) (xs : List Step) → line ≡ suc n → n + length xs ≤ most_lines → AllByRecursion IsStep xs
+    → StateFits n (line_takings * n) s
     → AllByRecursion FitsAtLine (run s line xs).transcript
 unfolding run step_with
 run_fits n s line [] at few is fit = tt
@@ -202,13 +234,13 @@ run_fits n s line (x ∷ xs) at few is fit =
     let its = line_fits s line x is.0 in
     let here : suc n ≤ most_lines = omega (arith, few) in
     let rest : suc n + length xs ≤ most_lines = omega (arith, few) in
-    let row = row_fits n (suc n) s atoms (omega (arith, its.few)) here its.each fit in
+    let row = row_behind n s atoms here its fit in
     all-append FitsAtLine (numbered line (events s atoms)) (run (after s atoms) (suc line) xs).transcript
     (numbered_fits line (events s atoms) (omega arith, omega (arith, at, here)) row.shown)
     (run_fits (suc n) (after s atoms) (suc line) xs (omega (arith, at)) rest is.1 row.state)
 
 -- before a setup
-blank_fits : StateFits 0 blank
+blank_fits : StateFits 0 0 blank
 unfolding meta_from
 blank_fits = record { joined = λ c. tt; calls = λ c. omega arith; ledgers = λ l. tt; sessions = omega arith }
 
@@ -238,16 +270,16 @@ more_text xs text each t = record {
 
 -- What is known before a line of a replay.
 record GoingFits (g : Going) : Type 0 where
-  state : StateFits g.lines g.state
+  state : StateFits g.lines (line_takings * g.lines) g.state
   few : g.lines ≤ most_lines
 
 -- a line of a replay that is run
 after_fits : (g : Going) (size : ℕ) (atoms : List Atom) (past : Option Past) (rest : Going → Replay) → suc g.lines ≤ most_lines → LineFits atoms
-    → StateFits g.lines g.state → ((next : Going) → GoingFits next → FittingText (rest next).text)
+    → StateFits g.lines (line_takings * g.lines) g.state → ((next : Going) → GoingFits next → FittingText (rest next).text)
     → FittingText (after_line g size (run_atoms g atoms) past rest).text
 after_fits g size atoms (Some past) rest few its fit later = no_text
 after_fits g size atoms None rest few its fit later =
-    let row = row_fits g.lines (suc g.lines) g.state atoms (omega (arith, its.few)) few its.each fit in
+    let row = row_behind g.lines g.state atoms few its fit in
     let next : Going = going_behind g size (run_atoms g atoms) in
     more_text (numbered (suc g.lines) (events g.state atoms)) (rest next).text
     (numbered_fits (suc g.lines) (events g.state atoms) (omega arith, omega (arith, few)) row.shown)
@@ -255,7 +287,7 @@ after_fits g size atoms None rest few its fit later =
 
 -- a line of a replay that was read
 read_fits : (g : Going) (line : List ℕ) (read : Result Step ℕ) (rest : Going → Replay) → parsed_line line ≡ read → suc g.lines ≤ most_lines
-    → StateFits g.lines g.state → ((next : Going) → GoingFits next → FittingText (rest next).text)
+    → StateFits g.lines (line_takings * g.lines) g.state → ((next : Going) → GoingFits next → FittingText (rest next).text)
     → FittingText (run_line g (length line) read rest).text
 read_fits g line (Err column) rest e few fit later = no_text
 read_fits g line (Ok x) rest e few fit later =
@@ -269,11 +301,13 @@ not_past g line true other e h = absurd cc
 not_past g line false other e h = ltb-false most_lines (suc g.lines) e
 
 -- a line of a replay
-take_fits : (g : Going) (line : List ℕ) (past : Option Past) (rest : Going → Replay) → past_schedule g line ≡ past → StateFits g.lines g.state
+take_fits : (g : Going) (line : List ℕ) (past : Option Past) (rest : Going → Replay) → past_schedule g line ≡ past
+    → StateFits g.lines (line_takings * g.lines) g.state
     → ((next : Going) → GoingFits next → FittingText (rest next).text) → FittingText (take_line g line past rest).text
 take_fits g line (Some past) rest e fit later = no_text
 take_fits g line None rest e fit later =
-    let few : suc g.lines ≤ most_lines = not_past g line (nat_lt most_lines (suc g.lines)) (past_where (nat_lt most_schedule (g.bytes + length line)) limit.Schedule most_schedule) refl e in
+    let few : suc g.lines ≤ most_lines =
+    not_past g line (nat_lt most_lines (suc g.lines)) (past_where (nat_lt most_schedule (g.bytes + length line)) limit.Schedule most_schedule) refl e in
     read_fits g line (parsed_line line) rest refl few fit later
 
 -- the replay of lines

@@ -1,5 +1,5 @@
 -- The ranges of what a client keeps and shows: its order under way, its writer, its reader, and its events.
-use Rattle.std.proofs.Common.{ℕ, ◌+◌, ◌*◌, ◌≤◌, Bool, true, false, List, Option, Some, None}
+use Rattle.std.proofs.Common.{ℕ, ◌+◌, ◌*◌, ◌≤◌, Bool, true, false, List, Option, Some, None, suc, length}
 use Rattle.std.proofs.Common.{arith}
 use Rattle.std.specs.List.{AllByRecursion}
 use Rattle.dl_types.specs.declared.refusal.Refusal.{Refusal}
@@ -32,24 +32,24 @@ StartFits start.Oldest = Unit {0}
 StartFits (start.Place d) = Unit {0}
 StartFits (start.Tx txid) = IsTxid txid
 
--- what an order does
-abbrev pub DoingFits : ClientArgs → Order → Doing → Type 0
-DoingFits me o (Makes heard) = Unit {0}
-DoingFits me o (Removes heard) = Unit {0}
-DoingFits me o (Opens heard) = OpenStageFits (open_stage (open_args me o) heard)
-DoingFits me o (Recovers heard) = RecoverStageFits (recover_stage (recover_args me o) heard)
-DoingFits me o Commits = Unit {0}
-DoingFits me o Confirms = Unit {0}
-DoingFits me o (Closes args heard) = Unit {0}
-DoingFits me o (Seeks from heard) = StartFits from
-DoingFits me o Reads = Unit {0}
-DoingFits me o (Truncates to heard) = IsPlaceFrom 0 to
-DoingFits me o (Purges heard) = Unit {0}
+-- what an order does, where at most so many lines and letters were taken
+abbrev pub DoingFits : ClientArgs → ℕ → Order → Doing → Type 0
+DoingFits me k o (Makes heard) = Unit {0}
+DoingFits me k o (Removes heard) = Unit {0}
+DoingFits me k o (Opens heard) = OpenStageFits (open_stage (open_args me o) heard)
+DoingFits me k o (Recovers heard) = RecoverStageFits (recover_stage (recover_args me o) heard)
+DoingFits me k o Commits = Unit {0}
+DoingFits me k o Confirms = Unit {0}
+DoingFits me k o (Closes args heard) = Unit {0}
+DoingFits me k o (Seeks from heard) = StartFits from
+DoingFits me k o Reads = Unit {0}
+DoingFits me k o (Truncates to heard) = IsPlaceFrom 0 to
+DoingFits me k o (Purges heard) = length heard ≤ k
 
--- An order.
-pub record OrderFits (me : ClientArgs) (o : Order) : Type 0 where
+-- An order, where at most so many lines and letters were taken.
+pub record OrderFits (me : ClientArgs) (k : ℕ) (o : Order) : Type 0 where
   pub stream : IsName o.stream
-  pub doing : DoingFits me o o.doing
+  pub doing : DoingFits me k o o.doing
 
 -- A writer, where at most so many lines were taken.
 pub record WriterFits (n : ℕ) (w : WriterView) : Type 0 where
@@ -61,10 +61,10 @@ pub record WriterFits (n : ℕ) (w : WriterView) : Type 0 where
 abbrev pub ReaderFits : ReaderView → Type 0
 ReaderFits r = IsName r.args.stream
 
--- A client, where at most so many lines were taken.
-pub record NowFits (me : ClientArgs) (n : ℕ) (now : ClientNow) : Type 0 where
+-- A client, where at most so many lines were taken, and so many lines and letters.
+pub record NowFits (me : ClientArgs) (n k : ℕ) (now : ClientNow) : Type 0 where
   pub taken : now.taken ≤ me.calls + set_most * n
-  pub order : AllSome (OrderFits me) now.order
+  pub order : AllSome (OrderFits me k) now.order
   pub writer : AllSome (WriterFits n) now.writer
   pub reader : AllSome ReaderFits now.reader
 
@@ -82,8 +82,8 @@ pub record ActsFit (more : ℕ) (acts : Acts) : Type 0 where
   pub taken : acts.taken ≤ set_most * more
 
 -- A client that takes something, and what it does.
-pub record MoveFits (me : ClientArgs) (n more : ℕ) (move : ClientMove) : Type 0 where
-  pub now : NowFits me n move.now
+pub record MoveFits (me : ClientArgs) (n k more : ℕ) (move : ClientMove) : Type 0 where
+  pub now : NowFits me n k move.now
   pub acts : ActsFit more move.acts
 
 -- ---- lines more
@@ -98,17 +98,40 @@ writer_more n m h (Some w) fit = record {
 }
 
 -- a client behind lines more
-pub now_more : (me : ClientArgs) (n m : ℕ) (now : ClientNow) → n ≤ m → NowFits me n now → NowFits me m now
-now_more me n m now h fit = record {
+pub now_more : (me : ClientArgs) (n k m : ℕ) (now : ClientNow) → n ≤ m → NowFits me n k now → NowFits me m k now
+now_more me n k m now h fit = record {
   taken = omega (arith, h, fit.taken);
   order = fit.order;
   writer = writer_more n m h now.writer fit.writer;
   reader = fit.reader;
 }
 
+-- an order behind a line or a letter more
+order_later : (me : ClientArgs) (k : ℕ) (o : Order) (doing : Doing) → DoingFits me k o doing → DoingFits me (suc k) o doing
+order_later me k o (Makes heard) is = tt
+order_later me k o (Removes heard) is = tt
+order_later me k o (Opens heard) is = is
+order_later me k o (Recovers heard) is = is
+order_later me k o Commits is = tt
+order_later me k o Confirms is = tt
+order_later me k o (Closes args heard) is = tt
+order_later me k o (Seeks from heard) is = is
+order_later me k o Reads is = tt
+order_later me k o (Truncates to heard) is = is
+order_later me k o (Purges heard) is = omega (arith, is)
+
+-- the same, where there is one
+pub some_later : (me : ClientArgs) (k : ℕ) (o : Option Order) → AllSome (OrderFits me k) o → AllSome (OrderFits me (suc k)) o
+some_later me k None is = tt
+some_later me k (Some o) is = record { stream = is.stream; doing = order_later me k o o.doing is.doing }
+
+-- a client behind a line or a letter more
+pub now_later : (me : ClientArgs) (n k : ℕ) (now : ClientNow) → NowFits me n k now → NowFits me n (suc k) now
+now_later me n k now fit = record { taken = fit.taken; order = some_later me k now.order fit.order; writer = fit.writer; reader = fit.reader }
+
 -- a client that has taken nothing yet
-pub new_fits : (me : ClientArgs) (n : ℕ) → NowFits me n (new_client me)
-new_fits me n = record { taken = omega arith; order = tt; writer = tt; reader = tt }
+pub new_fits : (me : ClientArgs) (n k : ℕ) → NowFits me n k (new_client me)
+new_fits me n k = record { taken = omega arith; order = tt; writer = tt; reader = tt }
 
 -- ---- acts
 
@@ -136,8 +159,8 @@ behind_fits n true w fit = tt
 behind_fits n false w fit = fit
 
 -- a client whose order has ended
-pub without_fits : (me : ClientArgs) (n : ℕ) (now : ClientNow) (o : Order) → NowFits me n now → NowFits me n (without_order now o)
-without_fits me n now o fit = record {
+pub without_fits : (me : ClientArgs) (n k : ℕ) (now : ClientNow) (o : Order) → NowFits me n k now → NowFits me n k (without_order now o)
+without_fits me n k now o fit = record {
   taken = fit.taken;
   order = tt;
   writer = behind_fits n (is_close o.doing) now.writer fit.writer;
@@ -145,38 +168,39 @@ without_fits me n now o fit = record {
 }
 
 -- a client with an order under way
-pub with_fits : (me : ClientArgs) (n : ℕ) (now : ClientNow) (o : Order) → OrderFits me o → NowFits me n now → NowFits me n (with_order now o)
-with_fits me n now o is fit = record { taken = fit.taken; order = is; writer = fit.writer; reader = fit.reader }
+pub with_fits : (me : ClientArgs) (n k : ℕ) (now : ClientNow) (o : Order) → OrderFits me k o → NowFits me n k now → NowFits me n k (with_order now o)
+with_fits me n k now o is fit = record { taken = fit.taken; order = is; writer = fit.writer; reader = fit.reader }
 
 -- a client that takes something and stays as it is
-pub stays_fits : (me : ClientArgs) (n more : ℕ) (now : ClientNow) → NowFits me n now → MoveFits me n more (stays now no_acts)
-stays_fits me n more now fit = record { now = fit; acts = no_acts_fit more }
+pub stays_fits : (me : ClientArgs) (n k more : ℕ) (now : ClientNow) → NowFits me n k now → MoveFits me n k more (stays now no_acts)
+stays_fits me n k more now fit = record { now = fit; acts = no_acts_fit more }
 
 -- a line that is refused
-pub refuses_fits : (me : ClientArgs) (n more : ℕ) (now : ClientNow) (r : Refusal) → IsClient me.number → NowFits me n now
-    → MoveFits me n more (refuses me now r)
-refuses_fits me n more now r c fit = record { now = fit; acts = shows_fit more (refusal_event me r) c }
+pub refuses_fits : (me : ClientArgs) (n k more : ℕ) (now : ClientNow) (r : Refusal) → IsClient me.number → NowFits me n k now
+    → MoveFits me n k more (refuses me now r)
+refuses_fits me n k more now r c fit = record { now = fit; acts = shows_fit more (refusal_event me r) c }
 
 -- an order that waits
-pub waits_fits : (me : ClientArgs) (n more : ℕ) (now : ClientNow) (o : Order) (acts : Acts) → OrderFits me o → NowFits me n now → ActsFit more acts
-    → MoveFits me n more (waits now o acts)
-waits_fits me n more now o acts is fit done = record { now = with_fits me n now o is fit; acts = done }
+pub waits_fits : (me : ClientArgs) (n k more : ℕ) (now : ClientNow) (o : Order) (acts : Acts) → OrderFits me k o → NowFits me n k now → ActsFit more acts
+    → MoveFits me n k more (waits now o acts)
+waits_fits me n k more now o acts is fit done = record { now = with_fits me n k now o is fit; acts = done }
 
 -- an order that ends with an event
-pub ends_fits : (me : ClientArgs) (n more : ℕ) (now : ClientNow) (o : Order) (acts : Acts) (e : Event) → NowFits me n now → ActsFit more acts
-    → FitsItsLine e → MoveFits me n more (ends_with now o acts e)
-ends_fits me n more now o acts e fit done h = record { now = without_fits me n now o fit; acts = event_fits more e acts h done }
+pub ends_fits : (me : ClientArgs) (n k more : ℕ) (now : ClientNow) (o : Order) (acts : Acts) (e : Event) → NowFits me n k now → ActsFit more acts
+    → FitsItsLine e → MoveFits me n k more (ends_with now o acts e)
+ends_fits me n k more now o acts e fit done h = record { now = without_fits me n k now o fit; acts = event_fits more e acts h done }
 
 -- an order that goes on
-pub goes_fits : {A : Type 0} (me : ClientArgs) (n more : ℕ) (now : ClientNow) (o : Order) (acts : Acts) (P : A → Type 0) (next : Next A) (done : A → ClientMove)
-    → IsClient me.number → OrderFits me o → NowFits me n now → ActsFit more acts → NextFits P next
-    → ((a : A) → P a → MoveFits me n more (done a)) → MoveFits me n more (goes_on me now o acts next done)
-goes_fits me n more now o acts P Wait done c is fit acted h later = waits_fits me n more now o acts is fit acted
-goes_fits me n more now o acts P (Ask r) done c is fit acted h later = record {
+pub goes_fits : {A : Type 0} (me : ClientArgs) (n k more : ℕ) (now : ClientNow) (o : Order) (acts : Acts) (P : A → Type 0) (next : Next A)
+    (done : A → ClientMove)
+    → IsClient me.number → OrderFits me k o → NowFits me n k now → ActsFit more acts → NextFits P next
+    → ((a : A) → P a → MoveFits me n k more (done a)) → MoveFits me n k more (goes_on me now o acts next done)
+goes_fits me n k more now o acts P Wait done c is fit acted h later = waits_fits me n k more now o acts is fit acted
+goes_fits me n k more now o acts P (Ask r) done c is fit acted h later = record {
   now = record { taken = fit.taken; order = is; writer = fit.writer; reader = fit.reader };
   acts = letters_fit more _ acts acted;
 }
-goes_fits me n more now o acts P (Tell ts) done c is fit acted h later =
-    waits_fits me n more now o (with_letters _ acts) is fit (letters_fit more _ acts acted)
-goes_fits me n more now o acts P (Done a) done c is fit acted h later = later a h
-goes_fits me n more now o acts P (Refused r) done c is fit acted h later = ends_fits me n more now o acts (refusal_event me r) fit acted c
+goes_fits me n k more now o acts P (Tell ts) done c is fit acted h later =
+    waits_fits me n k more now o (with_letters _ acts) is fit (letters_fit more _ acts acted)
+goes_fits me n k more now o acts P (Done a) done c is fit acted h later = later a h
+goes_fits me n k more now o acts P (Refused r) done c is fit acted h later = ends_fits me n k more now o acts (refusal_event me r) fit acted c

@@ -4,6 +4,7 @@ pub mod NodeRanges
 pub mod LogRanges
 pub mod RecoveryRanges
 pub mod OpenRanges
+pub mod PurgeRanges
 pub mod ClientRanges
 pub mod OrderRanges
 pub mod WriterRanges

@@ -54,7 +54,8 @@ OpenFits move = PairFits OpenStageFits OpenedFits move
 
 -- a look
 looks_fit : (x : OpenArgs) (member : List ℕ) → OpenFits (looks x member)
-looks_fit x member = within_fits OpenStageFits OpenedFits (LookingFor member) OpenDone (λ looked. (OpenDone, Wait)) (look_first x.stream) (λ s. tt) tt (λ a. (tt, tt))
+looks_fit x member =
+    within_fits OpenStageFits OpenedFits (LookingFor member) OpenDone (λ looked. (OpenDone, Wait)) (look_first x.stream) (λ s. tt) tt (λ a. (tt, tt))
 
 -- the recovery of a segment
 goes_fits : (x : OpenArgs) (member : List ℕ) (args : SegmentArgs) (move : SegmentStage × Next Recovered) → args.segment ≤ ten_nines → SegmentMove move
@@ -74,7 +75,8 @@ allocates_fit : (x : OpenArgs) (member : List ℕ) (looked : Looked) → OpenFit
 allocates_fit x member looked = go (nat_lt ten_nines (looked.maxseq.segment + 1)) refl
   where
     go : (t : Bool) → nat_lt ten_nines (looked.maxseq.segment + 1) ≡ t
-        → OpenFits (cond t (OpenDone, Refused (refused.GaveUp (path_of (MaxSeq x.stream)))) (allocation_goes x member looked 0 (allocation_first (allocation_args x member looked))))
+        → OpenFits (cond t (OpenDone, Refused (refused.GaveUp (path_of (MaxSeq x.stream))))
+        (allocation_goes x member looked 0 (allocation_first (allocation_args x member looked))))
     go true e = (tt, tt)
     go false e = allocation_fits x member looked 0 (allocation_first (allocation_args x member looked)) (ltb-false ten_nines (looked.maxseq.segment + 1) e)
 
@@ -157,7 +159,8 @@ after_recovered_fits x args Again h is = recover_looks_fit x
 recover_goes_fits : (x : recover.RecoverArgs) (args : SegmentArgs) (move : SegmentStage × Next Recovered) → args.segment ≤ ten_nines → SegmentMove move
     → RecoverFits (recover.segment_goes x args move)
 recover_goes_fits x args move h is =
-    within_such SegmentStageFits RecoveredFits RecoverStageFits FoundFits (recover.RecoveringSegment args) recover.RecoverDone (recover.after_segment x args) move
+    within_such SegmentStageFits RecoveredFits RecoverStageFits FoundFits (recover.RecoveringSegment args) recover.RecoverDone
+    (recover.after_segment x args) move
     (λ s fit. (h, fit)) tt (λ r fit. after_recovered_fits x args r h fit) is
 
 -- behind a look

@@ -1,5 +1,5 @@
 -- The ranges of what orders keep and show, as they begin and as they hear something.
-use Rattle.std.proofs.Common.{ℕ, ◌*◌, ◌≤◌, List, [], ◌∷◌, Option, Some, None, arith}
+use Rattle.std.proofs.Common.{ℕ, ◌*◌, ◌≤◌, List, [], ◌∷◌, Option, Some, None, arith, suc}
 use Rattle.dl_types.specs.declared.dlsn.Dlsn.{Dlsn}
 use Rattle.dl_types.specs.declared.read_row.ReadRow.{ReadRow}
 use Rattle.dl_types.specs.declared.refusal.Refusal.TheVariants as why
@@ -33,28 +33,31 @@ use Rattle.dl_rules_client.specs.Orders.{found_event, opened_event, ends_seek, g
 use Rattle.dl_rules_client.specs.EventRanges.{FitsItsLine, set_most}
 use Rattle.dl_rules_client.proofs.RangeLists.{Any, AllSome}
 use Rattle.dl_rules_client.proofs.NextRanges.{NextFits, any_next}
+use Rattle.dl_rules_client.proofs.PurgeRanges.{purge_fits, purge_count}
 use Rattle.dl_rules_client.proofs.OpenRanges.{OpenedFits, OpenStageFits, open_fits, open_begun, open_later, recovers_fit, FoundFits, recover_fits}
+use Rattle.dl_rules_client.proofs.PurgeRanges.{purge_fits, purge_count}
 use Rattle.dl_rules_client.proofs.OpenRanges.{recover_later, truncated_fits}
 use Rattle.dl_rules_client.proofs.LogRanges.{started_fit}
 use Rattle.dl_rules_client.proofs.ClientRanges.{StartFits, DoingFits, OrderFits, WriterFits, ReaderFits, NowFits, ActsFit, MoveFits, no_acts_fit}
 use Rattle.dl_rules_client.proofs.ClientRanges.{event_fits, shows_fit, without_fits, stays_fits, refuses_fits, waits_fits, ends_fits, goes_fits}
 
 -- an order begins
-pub begins_fits : {A : Type 0} (me : ClientArgs) (n more : ℕ) (now : ClientNow) (line : ℕ) (s : List ℕ) (doing : Doing) (first : Order → Next A)
-    → IsClient me.number → IsName s → DoingFits me (record { line = line; stream = s; doing = doing }) doing → NowFits me n now
-    → MoveFits me n more (begins me now line s doing first)
-begins_fits me n more now line s doing first c name is fit =
+pub begins_fits : {A : Type 0} (me : ClientArgs) (n k more : ℕ) (now : ClientNow) (line : ℕ) (s : List ℕ) (doing : Doing) (first : Order → Next A)
+    → IsClient me.number → IsName s → DoingFits me k (record { line = line; stream = s; doing = doing }) doing → NowFits me n k now
+    → MoveFits me n k more (begins me now line s doing first)
+begins_fits me n k more now line s doing first c name is fit =
     let o : Order = record { line = line; stream = s; doing = doing } in
-    let order : OrderFits me o = record { stream = name; doing = is } in
-    goes_fits me n more now o no_acts Any (first o) _ c order fit (no_acts_fit more) (any_next (first o))
-    (λ a u. waits_fits me n more now o no_acts order fit (no_acts_fit more))
+    let order : OrderFits me k o = record { stream = name; doing = is } in
+    goes_fits me n k more now o no_acts Any (first o) _ c order fit (no_acts_fit more) (any_next (first o))
+    (λ a u. waits_fits me n k more now o no_acts order fit (no_acts_fit more))
 
 -- an open begins
-pub begins_open_fits : (me : ClientArgs) (n more : ℕ) (now : ClientNow) (line : ℕ) (s : List ℕ) (w : Option WriterView)
-    → IsClient me.number → IsName s → NowFits me n now → MoveFits me n more (begins_open me now line s w)
-begins_open_fits me n more now line s (Some w) c name fit = refuses_fits me n more now (why.Busy w.line) c fit
-begins_open_fits me n more now line s None c name fit =
-    begins_fits me n more now line s (Opens []) (λ o. (open_first (open_args me o)).1) c name (open_begun (open_args me (record { line = line; stream = s; doing = Opens [] }))) fit
+pub begins_open_fits : (me : ClientArgs) (n k more : ℕ) (now : ClientNow) (line : ℕ) (s : List ℕ) (w : Option WriterView)
+    → IsClient me.number → IsName s → NowFits me n k now → MoveFits me n k more (begins_open me now line s w)
+begins_open_fits me n k more now line s (Some w) c name fit = refuses_fits me n k more now (why.Busy w.line) c fit
+begins_open_fits me n k more now line s None c name fit =
+    begins_fits me n k more now line s (Opens []) (λ o. (open_first (open_args me o)).1) c name
+    (open_begun (open_args me (record { line = line; stream = s; doing = Opens [] }))) fit
 
 -- ---- reads
 
@@ -64,33 +67,33 @@ rows_fit me s [] c name = (c, name)
 rows_fit me s (r ∷ rs) c name = (c, name)
 
 -- a client with this reader
-reader_fits : (me : ClientArgs) (n : ℕ) (now : ClientNow) (r : ReaderView) → ReaderFits r → NowFits me n now → NowFits me n (with_reader now r)
-reader_fits me n now r is fit = record { taken = fit.taken; order = fit.order; writer = fit.writer; reader = is }
+reader_fits : (me : ClientArgs) (n k : ℕ) (now : ClientNow) (r : ReaderView) → ReaderFits r → NowFits me n k now → NowFits me n k (with_reader now r)
+reader_fits me n k now r is fit = record { taken = fit.taken; order = fit.order; writer = fit.writer; reader = is }
 
 -- a call of the reader
-reader_goes_fits : (me : ClientArgs) (n more : ℕ) (now : ClientNow) (o : Order) (r : ReaderView) (acts : Acts) (call : LogReaderCall)
-    → IsClient me.number → OrderFits me o → ReaderFits r → NowFits me n now → ActsFit more acts → MoveFits me n more (reader_goes_on me now o r acts call)
-reader_goes_fits me n more now o r acts call c order is fit acted =
+reader_goes_fits : (me : ClientArgs) (n k more : ℕ) (now : ClientNow) (o : Order) (r : ReaderView) (acts : Acts) (call : LogReaderCall)
+    → IsClient me.number → OrderFits me k o → ReaderFits r → NowFits me n k now → ActsFit more acts → MoveFits me n k more (reader_goes_on me now o r acts call)
+reader_goes_fits me n k more now o r acts call c order is fit acted =
     let next : ClientNow = with_reader now (with_reader_call r call) in
-    let next_fits : NowFits me n next = reader_fits me n now (with_reader_call r call) is fit in
+    let next_fits : NowFits me n k next = reader_fits me n k now (with_reader_call r call) is fit in
     let move : Next (List ReadRow) = (reader_move r.args (reader_now r) call).1 in
-    goes_fits me n more next o acts Any move _ c order next_fits acted (any_next move)
-    (λ rows u. ends_fits me n more next o acts (rows_event me o.stream rows) next_fits acted (rows_fit me o.stream rows c order.stream))
+    goes_fits me n k more next o acts Any move _ c order next_fits acted (any_next move)
+    (λ rows u. ends_fits me n k more next o acts (rows_event me o.stream rows) next_fits acted (rows_fit me o.stream rows c order.stream))
 
 -- a read begins
-pub begins_read_fits : (me : ClientArgs) (n more : ℕ) (now : ClientNow) (line count : ℕ) (r : Option ReaderView)
-    → IsClient me.number → AllSome ReaderFits r → NowFits me n now → MoveFits me n more (begins_read me now line count r)
-begins_read_fits me n more now line count None c is fit = stays_fits me n more now fit
-begins_read_fits me n more now line count (Some r) c is fit =
+pub begins_read_fits : (me : ClientArgs) (n k more : ℕ) (now : ClientNow) (line count : ℕ) (r : Option ReaderView)
+    → IsClient me.number → AllSome ReaderFits r → NowFits me n k now → MoveFits me n k more (begins_read me now line count r)
+begins_read_fits me n k more now line count None c is fit = stays_fits me n k more now fit
+begins_read_fits me n k more now line count (Some r) c is fit =
     let o : Order = record { line = line; stream = r.args.stream; doing = Reads } in
-    reader_goes_fits me n more now o r (shows (event.Reading me.number o.stream)) (CallsRead line count) c (record { stream = is; doing = tt }) is fit
+    reader_goes_fits me n k more now o r (shows (event.Reading me.number o.stream)) (CallsRead line count) c (record { stream = is; doing = tt }) is fit
     (shows_fit more (event.Reading me.number o.stream) (c, is))
 
 -- a read hears something
-read_fits : (me : ClientArgs) (n more : ℕ) (now : ClientNow) (o : Order) (r : Option ReaderView) (h : Heard)
-    → IsClient me.number → OrderFits me o → AllSome ReaderFits r → NowFits me n now → MoveFits me n more (read_hears me now o r h)
-read_fits me n more now o None h c order is fit = waits_fits me n more now o no_acts order fit (no_acts_fit more)
-read_fits me n more now o (Some r) h c order is fit = reader_goes_fits me n more now o r no_acts (HearsAll h) c order is fit (no_acts_fit more)
+read_fits : (me : ClientArgs) (n k more : ℕ) (now : ClientNow) (o : Order) (r : Option ReaderView) (h : Heard)
+    → IsClient me.number → OrderFits me k o → AllSome ReaderFits r → NowFits me n k now → MoveFits me n k more (read_hears me now o r h)
+read_fits me n k more now o None h c order is fit = waits_fits me n k more now o no_acts order fit (no_acts_fit more)
+read_fits me n k more now o (Some r) h c order is fit = reader_goes_fits me n k more now o r no_acts (HearsAll h) c order is fit (no_acts_fit more)
 
 -- ---- how orders end
 
@@ -101,9 +104,9 @@ recovered_fit me more s None c name is = no_acts_fit more
 recovered_fit me more s (Some d) c name is = shows_fit more (event.Recovered me.number s d) (c, (name, is))
 
 -- the writer that an open ends with
-new_writer_fits : (me : ClientArgs) (n : ℕ) (o : Order) (x : Opened) → IsName o.stream → OpenedFits x → WriterFits n (new_writer me o x)
+new_writer_fits : (me : ClientArgs) (n k : ℕ) (o : Order) (x : Opened) → IsName o.stream → OpenedFits x → WriterFits n (new_writer me o x)
 unfolding log_of
-new_writer_fits me n o x name is =
+new_writer_fits me n k o x name is =
     let few : x.segment ≤ most_u64 = omega (arith, is) in
     record {
       stream = name;
@@ -112,13 +115,13 @@ new_writer_fits me n o x name is =
     }
 
 -- an open ends
-ends_open_fits : (me : ClientArgs) (n more : ℕ) (now : ClientNow) (o : Order) (acts : Acts) (x : Opened)
-    → IsClient me.number → IsName o.stream → OpenedFits x → NowFits me n now → ActsFit more acts → MoveFits me n more (ends_open me now o acts x)
-ends_open_fits me n more now o acts x c name is fit acted =
-    let ended = without_fits me n now o fit in
+ends_open_fits : (me : ClientArgs) (n k more : ℕ) (now : ClientNow) (o : Order) (acts : Acts) (x : Opened)
+    → IsClient me.number → IsName o.stream → OpenedFits x → NowFits me n k now → ActsFit more acts → MoveFits me n k more (ends_open me now o acts x)
+ends_open_fits me n k more now o acts x c name is fit acted =
+    let ended = without_fits me n k now o fit in
     let few : x.segment ≤ most_u64 = omega (arith, is) in
     record {
-      now = record { taken = ended.taken; order = tt; writer = new_writer_fits me n o x name is; reader = ended.reader };
+      now = record { taken = ended.taken; order = tt; writer = new_writer_fits me n k o x name is; reader = ended.reader };
       acts = event_fits more (event.Writer me.number o.stream x.segment) acts (c, (name, (omega arith, few))) acted;
     }
 
@@ -135,70 +138,75 @@ opened_fits me s (start.Place d) point c name is = (c, name)
 opened_fits me s start.Oldest point c name is = (c, name)
 
 -- a seek ends
-ends_seek_fits : (me : ClientArgs) (n more : ℕ) (now : ClientNow) (o : Order) (from : Start) (point : Dlsn)
-    → IsClient me.number → IsName o.stream → StartFits from → NowFits me n now → MoveFits me n more (ends_seek me now o from point)
-ends_seek_fits me n more now o from point c name is fit = record {
-  now = reader_fits me n (without_order now o) (new_reader me o.stream from point) name (without_fits me n now o fit);
+ends_seek_fits : (me : ClientArgs) (n k more : ℕ) (now : ClientNow) (o : Order) (from : Start) (point : Dlsn)
+    → IsClient me.number → IsName o.stream → StartFits from → NowFits me n k now → MoveFits me n k more (ends_seek me now o from point)
+ends_seek_fits me n k more now o from point c name is fit = record {
+  now = reader_fits me n k (without_order now o) (new_reader me o.stream from point) name (without_fits me n k now o fit);
   acts = shows_fit more (opened_event me o.stream from point) (opened_fits me o.stream from point c name is);
 }
 
 -- ---- what orders hear
 
 -- an order that heard something goes on, and ends with an event
-goes_to_fits : {A : Type 0} (me : ClientArgs) (n more : ℕ) (now : ClientNow) (o : Order) (doing : Doing) (P : A → Type 0) (next : Next A) (end : A → Event)
-    → IsClient me.number → OrderFits me (order_doing o doing) → NowFits me n now → NextFits P next → ((a : A) → P a → FitsItsLine (end a))
-    → MoveFits me n more (goes_to me now o doing next end)
-goes_to_fits me n more now o doing P next end c order fit h shown =
-    goes_fits me n more now (order_doing o doing) no_acts P next _ c order fit (no_acts_fit more) h
-    (λ a p. ends_fits me n more now o no_acts (end a) fit (no_acts_fit more) (shown a p))
+goes_to_fits : {A : Type 0} (me : ClientArgs) (n k more : ℕ) (now : ClientNow) (o : Order) (doing : Doing) (P : A → Type 0) (next : Next A) (end : A → Event)
+    → IsClient me.number → OrderFits me k (order_doing o doing) → NowFits me n k now → NextFits P next → ((a : A) → P a → FitsItsLine (end a))
+    → MoveFits me n k more (goes_to me now o doing next end)
+goes_to_fits me n k more now o doing P next end c order fit h shown =
+    goes_fits me n k more now (order_doing o doing) no_acts P next _ c order fit (no_acts_fit more) h
+    (λ a p. ends_fits me n k more now o no_acts (end a) fit (no_acts_fit more) (shown a p))
 
 -- an open that heard something
-open_goes_fits : (me : ClientArgs) (n more : ℕ) (now : ClientNow) (o : Order) (h : Heard) (heard : List Heard)
-    → IsClient me.number → IsName o.stream → OpenStageFits (open_stage (open_args me o) heard) → NowFits me n now
-    → MoveFits me n more (open_goes_on me now o h heard (open_stage (open_args me o) heard))
-open_goes_fits me n more now o h heard c name is fit =
+open_goes_fits : (me : ClientArgs) (n k more : ℕ) (now : ClientNow) (o : Order) (h : Heard) (heard : List Heard)
+    → IsClient me.number → IsName o.stream → OpenStageFits (open_stage (open_args me o) heard) → NowFits me n k now
+    → MoveFits me n k more (open_goes_on me now o h heard (open_stage (open_args me o) heard))
+open_goes_fits me n k more now o h heard c name is fit =
     let stage : OpenStage = open_stage (open_args me o) heard in
     let acts : Acts = recovered_acts me o.stream (open_recovers stage h) in
     let acted : ActsFit more acts = recovered_fit me more o.stream (open_recovers stage h) c name (recovers_fit stage h is) in
-    goes_fits me n more now (order_doing o (Opens (h ∷ heard))) acts OpenedFits (open_hears (open_args me o) stage h).1 _ c
+    goes_fits me n k more now (order_doing o (Opens (h ∷ heard))) acts OpenedFits (open_hears (open_args me o) stage h).1 _ c
     (record { stream = name; doing = open_later (open_args me o) h heard is }) fit acted (open_fits (open_args me o) stage h is).1
-    (λ x p. ends_open_fits me n more now o acts x c name p fit acted)
+    (λ x p. ends_open_fits me n k more now o acts x c name p fit acted)
 
 -- an order of this doing, on the stream of another
-order_of : (me : ClientArgs) (o : Order) (doing : Doing) → IsName o.stream → DoingFits me o doing → OrderFits me (order_doing o doing)
-order_of me o doing name is = record { stream = name; doing = is }
+order_of : (me : ClientArgs) (k : ℕ) (o : Order) (doing : Doing) → IsName o.stream → DoingFits me k o doing → OrderFits me k (order_doing o doing)
+order_of me k o doing name is = record { stream = name; doing = is }
 
 -- the order under way hears something
-pub order_fits : (me : ClientArgs) (n more : ℕ) (now : ClientNow) (o : Order) (h : Heard) (doing : Doing)
-    → IsClient me.number → IsName o.stream → DoingFits me o doing → OrderFits me o → NowFits me n now → MoveFits me n more (order_hears me now o h doing)
+pub order_fits : (me : ClientArgs) (n k more : ℕ) (now : ClientNow) (o : Order) (h : Heard) (doing : Doing)
+    → IsClient me.number → suc k ≤ most_u64 → IsName o.stream → DoingFits me k o doing → OrderFits me (suc k) o → NowFits me n (suc k) now
+    → MoveFits me n (suc k) more (order_hears me now o h doing)
 unfolding order_hears
-order_fits me n more now o h (Makes heard) c name is order fit =
-    goes_to_fits me n more now o (Makes (h ∷ heard)) Any (make_hears o.stream (make_stage o.stream heard) h).1 (λ u. event.Created me.number o.stream)
-    c (order_of me o (Makes (h ∷ heard)) name tt) fit (any_next _) (λ a p. (c, name))
-order_fits me n more now o h (Removes heard) c name is order fit =
-    goes_to_fits me n more now o (Removes (h ∷ heard)) Any (remove_hears o.stream (remove_stage o.stream heard) h).1 (λ u. event.Removed me.number o.stream)
-    c (order_of me o (Removes (h ∷ heard)) name tt) fit (any_next _) (λ a p. (c, name))
-order_fits me n more now o h (Opens heard) c name is order fit = open_goes_fits me n more now o h heard c name is fit
-order_fits me n more now o h (Recovers heard) c name is order fit =
+order_fits me n k more now o h (Makes heard) c few name is order fit =
+    goes_to_fits me n (suc k) more now o (Makes (h ∷ heard)) Any (make_hears o.stream (make_stage o.stream heard) h).1 (λ u. event.Created me.number o.stream)
+    c (order_of me (suc k) o (Makes (h ∷ heard)) name tt) fit (any_next _) (λ a p. (c, name))
+order_fits me n k more now o h (Removes heard) c few name is order fit =
+    goes_to_fits me n (suc k) more now o (Removes (h ∷ heard)) Any (remove_hears o.stream (remove_stage o.stream heard) h).1
+    (λ u. event.Removed me.number o.stream)
+    c (order_of me (suc k) o (Removes (h ∷ heard)) name tt) fit (any_next _) (λ a p. (c, name))
+order_fits me n k more now o h (Opens heard) c few name is order fit = open_goes_fits me n (suc k) more now o h heard c name is fit
+order_fits me n k more now o h (Recovers heard) c few name is order fit =
     let args : RecoverArgs = recover_args me o in
-    goes_to_fits me n more now o (Recovers (h ∷ heard)) FoundFits (recover_hears args (recover_stage args heard) h).1 (found_event me o.stream)
-    c (order_of me o (Recovers (h ∷ heard)) name (recover_later args h heard is)) fit (recover_fits args (recover_stage args heard) h is).1
+    goes_to_fits me n (suc k) more now o (Recovers (h ∷ heard)) FoundFits (recover_hears args (recover_stage args heard) h).1 (found_event me o.stream)
+    c (order_of me (suc k) o (Recovers (h ∷ heard)) name (recover_later args h heard is)) fit (recover_fits args (recover_stage args heard) h is).1
     (λ a p. found_fits me o.stream a c name p)
-order_fits me n more now o h Commits c name is order fit = waits_fits me n more now o no_acts order fit (no_acts_fit more)
-order_fits me n more now o h Confirms c name is order fit = waits_fits me n more now o no_acts order fit (no_acts_fit more)
-order_fits me n more now o h (Closes args heard) c name is order fit =
-    goes_to_fits me n more now o (Closes args (h ∷ heard)) Any (close_hears args (close_stage args heard) h).1 (λ u. event.Released me.number o.stream)
-    c (order_of me o (Closes args (h ∷ heard)) name tt) fit (any_next _) (λ a p. (c, name))
-order_fits me n more now o h (Seeks from heard) c name is order fit =
-    goes_fits me n more now (order_doing o (Seeks from (h ∷ heard))) no_acts Any (seek_hears o.stream (seek_stage o.stream heard) h).1 _ c
-    (order_of me o (Seeks from (h ∷ heard)) name is) fit (no_acts_fit more) (any_next _)
-    (λ point p. ends_seek_fits me n more now o from point c name is fit)
-order_fits me n more now o h Reads c name is order fit = read_fits me n more now o now.reader h c order fit.reader fit
-order_fits me n more now o h (Truncates to heard) c name is order fit =
-    goes_to_fits me n more now o (Truncates to (h ∷ heard)) (IsPlaceFrom 0)
+order_fits me n k more now o h Commits c few name is order fit = waits_fits me n (suc k) more now o no_acts order fit (no_acts_fit more)
+order_fits me n k more now o h Confirms c few name is order fit = waits_fits me n (suc k) more now o no_acts order fit (no_acts_fit more)
+order_fits me n k more now o h (Closes args heard) c few name is order fit =
+    goes_to_fits me n (suc k) more now o (Closes args (h ∷ heard)) Any (close_hears args (close_stage args heard) h).1 (λ u. event.Released me.number o.stream)
+    c (order_of me (suc k) o (Closes args (h ∷ heard)) name tt) fit (any_next _) (λ a p. (c, name))
+order_fits me n k more now o h (Seeks from heard) c few name is order fit =
+    goes_fits me n (suc k) more now (order_doing o (Seeks from (h ∷ heard))) no_acts Any (seek_hears o.stream (seek_stage o.stream heard) h).1 _ c
+    (order_of me (suc k) o (Seeks from (h ∷ heard)) name is) fit (no_acts_fit more) (any_next _)
+    (λ point p. ends_seek_fits me n (suc k) more now o from point c name is fit)
+order_fits me n k more now o h Reads c few name is order fit = read_fits me n (suc k) more now o now.reader h c order fit.reader fit
+order_fits me n k more now o h (Truncates to heard) c few name is order fit =
+    goes_to_fits me n (suc k) more now o (Truncates to (h ∷ heard)) (IsPlaceFrom 0)
     (truncate_hears (truncate_args o to) (truncate_stage (truncate_args o to) heard) h).1 (event.Truncated me.number o.stream)
-    c (order_of me o (Truncates to (h ∷ heard)) name is) fit (truncated_fits (truncate_args o to) (truncate_stage (truncate_args o to) heard) h is)
+    c (order_of me (suc k) o (Truncates to (h ∷ heard)) name is) fit (truncated_fits (truncate_args o to) (truncate_stage (truncate_args o to) heard) h is)
     (λ d p. (c, (name, p)))
-order_fits me n more now o h (Purges heard) c name is order fit =
-    goes_to_fits me n more now o (Purges (h ∷ heard)) Any (purge_hears o.stream (purge_stage o.stream heard) h).1 (event.Purged me.number o.stream)
-    c (order_of me o (Purges (h ∷ heard)) name tt) fit (any_next _) (λ count p. (c, name))
+order_fits me n k more now o h (Purges heard) c few name is order fit =
+    goes_to_fits me n (suc k) more now o (Purges (h ∷ heard)) (λ count. count ≤ suc k) (purge_hears o.stream (purge_stage o.stream heard) h).1
+    (event.Purged me.number o.stream)
+    c (order_of me (suc k) o (Purges (h ∷ heard)) name (omega (arith, is))) fit
+    (purge_fits o.stream (purge_stage o.stream heard) h k (omega (arith, is, purge_count o.stream heard)))
+    (λ count p. (c, (name, (omega arith, omega (arith, p, few)))))

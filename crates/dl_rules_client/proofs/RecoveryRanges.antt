@@ -110,13 +110,13 @@ recovers_fit x phase b m is = is
 
 -- the recovery of a ledger
 abbrev RecoveryFits : RecoveryStage → Type 0
-RecoveryFits (GettingNode node) = Unit {0}
+RecoveryFits (GettingNode last) = Unit {0}
 RecoveryFits (Marking m version) = Unit {0}
 RecoveryFits (Searching m version phase) = PhaseFits phase
 RecoveryFits (Closing m version count) = count ≤ max_u64
 RecoveryFits (IsClosed m) = LedgerFits m
-RecoveryFits (IsGone node) = Unit {0}
-RecoveryFits (WasRefused node) = Unit {0}
+RecoveryFits (IsGone last) = Unit {0}
+RecoveryFits (WasRefused last) = Unit {0}
 
 -- a stage of it, and what it does next
 abbrev LedgerMove : RecoveryStage × Next ℕ → Type 0
@@ -218,7 +218,8 @@ segment_answers_fit : (x : SegmentArgs) (stage : SegmentStage) (a : MetaAnswer) 
 unfolding segment_answers
 segment_answers_fit x GettingSegment (answer.One (Bytes bytes version)) is =
     refused_such SegmentStageFits RecoveredFits SegmentDone (after_segment x) (segment_of x.stream (Progress x.segment) bytes) tt
-    (ok_map (segment_of x.stream (Progress x.segment) bytes) Any (λ m. SegmentMove (after_segment x m)) (any_ok (segment_of x.stream (Progress x.segment) bytes))
+    (ok_map (segment_of x.stream (Progress x.segment) bytes) Any (λ m. SegmentMove (after_segment x m))
+    (any_ok (segment_of x.stream (Progress x.segment) bytes))
     (λ m u. after_ledger_fits x (ledger_of m) (recovery_first (ledger_args x (ledger_of m))) (tt, tt)))
 segment_answers_fit x GettingSegment (answer.Failed at NoNode) is = (tt, tt)
 segment_answers_fit x GettingSegment (answer.Failed at w) is = (tt, tt)
@@ -248,6 +249,7 @@ pub end_place : (segment count : ℕ) → segment ≤ ten_nines → count ≤ ma
 end_place segment count s c = ((omega arith, omega (arith, s)), ((omega arith, c), (omega arith, omega arith)))
 
 -- the place below which all rows of the segment stand
-pub by_fits : (x : SegmentArgs) (move : SegmentStage × Next Recovered) → x.segment ≤ ten_nines → SegmentMove move → AllSome (IsPlaceFrom 0) (recovered_by x move)
+pub by_fits : (x : SegmentArgs) (move : SegmentStage × Next Recovered) → x.segment ≤ ten_nines → SegmentMove move
+    → AllSome (IsPlaceFrom 0) (recovered_by x move)
 by_fits x (stage, Done (ClosedAt count)) s is = end_place x.segment count s is.1
 by_fits x (stage, next) s is = tt

@@ -53,8 +53,8 @@ unfolding log_of
 hears_fits n w b m fit = record { stream = fit.stream; segment = fit.segment; log = told_fit (set_most * n) (2 * n) (log_now w) b m fit.log }
 
 -- a client with this writer
-writer_fits : (me : ClientArgs) (n : ℕ) (now : ClientNow) (w : WriterView) → WriterFits n w → NowFits me n now → NowFits me n (with_writer now w)
-writer_fits me n now w is fit = record { taken = fit.taken; order = fit.order; writer = is; reader = fit.reader }
+writer_fits : (me : ClientArgs) (n k : ℕ) (now : ClientNow) (w : WriterView) → WriterFits n w → NowFits me n k now → NowFits me n k (with_writer now w)
+writer_fits me n k now w is fit = record { taken = fit.taken; order = fit.order; writer = is; reader = fit.reader }
 
 -- ---- what a call shows
 
@@ -75,11 +75,11 @@ between_fits r e before now k fit =
     cond_both (AllSome EntryFits) (nat_lt (sent_count before) (sent_count now)) (last_sent_entry now) None (last_entry_fit r e now k fit) tt
 
 -- the acts of a writer's call
-move_acts_fit : (me : ClientArgs) (n more r e : ℕ) (w : WriterView) (m : LogMove) → IsClient me.number → e ≤ most_u64 → WriterFits n w → LogMoveFits r e m
+move_acts_fit : (me : ClientArgs) (n k more r e : ℕ) (w : WriterView) (m : LogMove) → IsClient me.number → e ≤ most_u64 → WriterFits n w → LogMoveFits r e m
     → ActsFit more (move_acts me w m)
-move_acts_fit me n more r e w m c k fit move =
+move_acts_fit me n k more r e w m c small fit move =
     let sent : Option log.SentEntry = entry_between (log_now w) m.now in
-    let entry : AllSome EntryFits sent = between_fits r e (log_now w) m.now k move.now in
+    let entry : AllSome EntryFits sent = between_fits r e (log_now w) m.now small move.now in
     record {
       events = all-append FitsItsLine (ack_events me m.rows) (sent_events me w sent)
           (all-map IsRow FitsItsLine _ (λ row is. (c, (is.call, is.place))) m.rows move.rows) (sent_fits me w sent c fit.segment entry);
@@ -104,29 +104,31 @@ took_length me s txid call (p ∷ ps) = omega (arith, took_length me s txid (suc
 -- ---- records
 
 -- a refused call
-refuses_call_fits : (me : ClientArgs) (n more : ℕ) (now : ClientNow) (w : WriterView) (call : LogCall) (r : Refusal)
-    → IsClient me.number → WriterFits n (with_call w call) → NowFits me n now → MoveFits me n more (refuses_call me now w call r)
-refuses_call_fits me n more now w call r c is fit = refuses_fits me n more (with_writer now (with_call w call)) r c (writer_fits me n now (with_call w call) is fit)
+refuses_call_fits : (me : ClientArgs) (n k more : ℕ) (now : ClientNow) (w : WriterView) (call : LogCall) (r : Refusal)
+    → IsClient me.number → WriterFits n (with_call w call) → NowFits me n k now → MoveFits me n k more (refuses_call me now w call r)
+refuses_call_fits me n k more now w call r c is fit =
+    refuses_fits me n k more (with_writer now (with_call w call)) r c (writer_fits me n k now (with_call w call) is fit)
 
 -- a call by which records are taken
-takes_fits : (me : ClientArgs) (n : ℕ) (now : ClientNow) (w : WriterView) (call : LogCall) (txid : ℕ) (payloads : List (List ℕ)) (result : Result LogMove Refusal)
-    → ArgsFit (suc n) me → IsCall call → IsTaken (next_origin me now) txid payloads → WriterFits n w → NowFits me n now
-    → CallFits (set_most * n + set_most) (suc (suc (2 * n))) result → MoveFits me (suc n) 1 (takes me now w call txid payloads result)
-takes_fits me n now w call txid payloads (Err r) args is taken writer fit result =
+takes_fits : (me : ClientArgs) (n k : ℕ) (now : ClientNow) (w : WriterView) (call : LogCall) (txid : ℕ) (payloads : List (List ℕ))
+    (result : Result LogMove Refusal)
+    → ArgsFit (suc n) k me → IsCall call → IsTaken (next_origin me now) txid payloads → WriterFits n w → NowFits me n k now
+    → CallFits (set_most * n + set_most) (suc (suc (2 * n))) result → MoveFits me (suc n) k 1 (takes me now w call txid payloads result)
+takes_fits me n k now w call txid payloads (Err r) args is taken writer fit result =
     let h : set_most * n ≤ most_u32 = omega (arith, args.calls) in
-    let k : suc (2 * n) ≤ most_u64 = omega (arith, args.calls) in
-    refuses_call_fits me (suc n) 1 now w call r args.number (call_fits n w call h k is writer) (now_more me n (suc n) now (omega arith) fit)
-takes_fits me n now w call txid payloads (Ok m) args is taken writer fit result =
+    let room : suc (2 * n) ≤ most_u64 = omega (arith, args.calls) in
+    refuses_call_fits me (suc n) k 1 now w call r args.number (call_fits n w call h room is writer) (now_more me n k (suc n) now (omega arith) fit)
+takes_fits me n k now w call txid payloads (Ok m) args is taken writer fit result =
     let h : set_most * n ≤ most_u32 = omega (arith, args.calls) in
-    let k : suc (2 * n) ≤ most_u64 = omega (arith, args.calls) in
+    let room : suc (2 * n) ≤ most_u64 = omega (arith, args.calls) in
     let f : suc (suc (2 * n)) ≤ most_u64 = omega (arith, args.calls) in
-    let next = now_more me n (suc n) now (omega arith) fit in
-    let acts = move_acts_fit me n 1 (set_most * n + set_most) (suc (suc (2 * n))) w m args.number f writer result in
+    let next = now_more me n k (suc n) now (omega arith) fit in
+    let acts = move_acts_fit me n k 1 (set_most * n + set_most) (suc (suc (2 * n))) w m args.number f writer result in
     record {
       now = record {
         taken = omega (arith, fit.taken, taken.few);
         order = next.order;
-        writer = call_fits n w call h k is writer;
+        writer = call_fits n w call h room is writer;
         reader = next.reader;
       };
       acts = record {
@@ -138,9 +140,9 @@ takes_fits me n now w call txid payloads (Ok m) args is taken writer fit result 
     }
 
 -- the records of a line are such as a writer may take
-origin_fits : (me : ClientArgs) (n : ℕ) (now : ClientNow) (txid : ℕ) (payloads : List (List ℕ)) → ArgsFit (suc n) me → NowFits me n now → IsTxid txid
+origin_fits : (me : ClientArgs) (n k : ℕ) (now : ClientNow) (txid : ℕ) (payloads : List (List ℕ)) → ArgsFit (suc n) k me → NowFits me n k now → IsTxid txid
     → AllByRecursion AllBytes payloads → length payloads ≤ set_most → IsTaken (next_origin me now) txid payloads
-origin_fits me n now txid payloads args fit t bytes few = record {
+origin_fits me n k now txid payloads args fit t bytes few = record {
   client = args.number;
   id = t;
   calls = omega (arith, args.calls, fit.taken, few);
@@ -149,128 +151,130 @@ origin_fits me n now txid payloads args fit t bytes few = record {
 }
 
 -- a record is appended
-pub appends_one_fits : (me : ClientArgs) (n : ℕ) (now : ClientNow) (w : Option WriterView) (txid : ℕ) (payload : List ℕ)
-    → ArgsFit (suc n) me → IsTxid txid → AllBytes payload → AllSome (WriterFits n) w → NowFits me n now → MoveFits me (suc n) 1 (appends_one me now w txid payload)
-appends_one_fits me n now None txid payload args t bytes writer fit =
-    refuses_fits me (suc n) 1 now why.NoWriter args.number (now_more me n (suc n) now (omega arith) fit)
-appends_one_fits me n now (Some w) txid payload args t bytes writer fit =
-    let taken = origin_fits me n now txid (payload ∷ []) args fit t (bytes, tt) (omega arith) in
-    takes_fits me n now w (Appends (next_origin me now) txid payload) txid (payload ∷ []) (appends (log_now w) (next_origin me now) txid payload)
+pub appends_one_fits : (me : ClientArgs) (n k : ℕ) (now : ClientNow) (w : Option WriterView) (txid : ℕ) (payload : List ℕ)
+    → ArgsFit (suc n) k me → IsTxid txid → AllBytes payload → AllSome (WriterFits n) w → NowFits me n k now
+    → MoveFits me (suc n) k 1 (appends_one me now w txid payload)
+appends_one_fits me n k now None txid payload args t bytes writer fit =
+    refuses_fits me (suc n) k 1 now why.NoWriter args.number (now_more me n k (suc n) now (omega arith) fit)
+appends_one_fits me n k now (Some w) txid payload args t bytes writer fit =
+    let taken = origin_fits me n k now txid (payload ∷ []) args fit t (bytes, tt) (omega arith) in
+    takes_fits me n k now w (Appends (next_origin me now) txid payload) txid (payload ∷ []) (appends (log_now w) (next_origin me now) txid payload)
     args taken taken writer fit
     (appends_fit (set_most * n) (2 * n) (log_now w) (next_origin me now) txid payload (omega (arith, args.calls)) (omega (arith, args.calls)) taken writer.log)
 
 -- a set of records is appended
-pub appends_many_fits : (me : ClientArgs) (n : ℕ) (now : ClientNow) (w : Option WriterView) (txid : ℕ) (payloads : List (List ℕ))
-    → ArgsFit (suc n) me → IsTxid txid → AllByRecursion AllBytes payloads → length payloads ≤ set_most → AllSome (WriterFits n) w → NowFits me n now
-    → MoveFits me (suc n) 1 (appends_many me now w txid payloads)
-appends_many_fits me n now None txid payloads args t bytes few writer fit =
-    refuses_fits me (suc n) 1 now why.NoWriter args.number (now_more me n (suc n) now (omega arith) fit)
-appends_many_fits me n now (Some w) txid payloads args t bytes few writer fit =
-    let taken = origin_fits me n now txid payloads args fit t bytes few in
-    takes_fits me n now w (AppendsSet (next_origin me now) txid payloads) txid payloads (appends_set (log_now w) (next_origin me now) txid payloads)
+pub appends_many_fits : (me : ClientArgs) (n k : ℕ) (now : ClientNow) (w : Option WriterView) (txid : ℕ) (payloads : List (List ℕ))
+    → ArgsFit (suc n) k me → IsTxid txid → AllByRecursion AllBytes payloads → length payloads ≤ set_most → AllSome (WriterFits n) w → NowFits me n k now
+    → MoveFits me (suc n) k 1 (appends_many me now w txid payloads)
+appends_many_fits me n k now None txid payloads args t bytes few writer fit =
+    refuses_fits me (suc n) k 1 now why.NoWriter args.number (now_more me n k (suc n) now (omega arith) fit)
+appends_many_fits me n k now (Some w) txid payloads args t bytes few writer fit =
+    let taken = origin_fits me n k now txid payloads args fit t bytes few in
+    takes_fits me n k now w (AppendsSet (next_origin me now) txid payloads) txid payloads (appends_set (log_now w) (next_origin me now) txid payloads)
     args taken taken writer fit
     (sets_fit (set_most * n) (2 * n) (log_now w) (next_origin me now) txid payloads (omega (arith, args.calls)) (omega (arith, args.calls)) taken writer.log)
 
 -- what was taken is sent
-sends_fits : (me : ClientArgs) (n : ℕ) (now : ClientNow) (w : WriterView) (result : Result LogMove Refusal)
-    → ArgsFit (suc n) me → WriterFits n w → NowFits me n now → CallFits (set_most * n + set_most) (suc (suc (2 * n))) result
-    → MoveFits me (suc n) 1 (sends me now w result)
-sends_fits me n now w (Err r) args writer fit result =
-    refuses_call_fits me (suc n) 1 now w Flushes r args.number
-    (call_fits n w Flushes (omega (arith, args.calls)) (omega (arith, args.calls)) tt writer) (now_more me n (suc n) now (omega arith) fit)
-sends_fits me n now w (Ok m) args writer fit result = record {
-  now = writer_fits me (suc n) now (with_call w Flushes)
-      (call_fits n w Flushes (omega (arith, args.calls)) (omega (arith, args.calls)) tt writer) (now_more me n (suc n) now (omega arith) fit);
-  acts = move_acts_fit me n 1 (set_most * n + set_most) (suc (suc (2 * n))) w m args.number (omega (arith, args.calls)) writer result;
+sends_fits : (me : ClientArgs) (n k : ℕ) (now : ClientNow) (w : WriterView) (result : Result LogMove Refusal)
+    → ArgsFit (suc n) k me → WriterFits n w → NowFits me n k now → CallFits (set_most * n + set_most) (suc (suc (2 * n))) result
+    → MoveFits me (suc n) k 1 (sends me now w result)
+sends_fits me n k now w (Err r) args writer fit result =
+    refuses_call_fits me (suc n) k 1 now w Flushes r args.number
+    (call_fits n w Flushes (omega (arith, args.calls)) (omega (arith, args.calls)) tt writer) (now_more me n k (suc n) now (omega arith) fit)
+sends_fits me n k now w (Ok m) args writer fit result = record {
+  now = writer_fits me (suc n) k now (with_call w Flushes)
+      (call_fits n w Flushes (omega (arith, args.calls)) (omega (arith, args.calls)) tt writer) (now_more me n k (suc n) now (omega arith) fit);
+  acts = move_acts_fit me n k 1 (set_most * n + set_most) (suc (suc (2 * n))) w m args.number (omega (arith, args.calls)) writer result;
 }
 
 -- a flush
-pub flushes_fits : (me : ClientArgs) (n : ℕ) (now : ClientNow) (w : Option WriterView) → ArgsFit (suc n) me → AllSome (WriterFits n) w → NowFits me n now
-    → MoveFits me (suc n) 1 (flushes me now w)
-flushes_fits me n now None args writer fit = refuses_fits me (suc n) 1 now why.NoWriter args.number (now_more me n (suc n) now (omega arith) fit)
-flushes_fits me n now (Some w) args writer fit =
-    sends_fits me n now w (log_flushes (log_now w)) args writer fit
+pub flushes_fits : (me : ClientArgs) (n k : ℕ) (now : ClientNow) (w : Option WriterView) → ArgsFit (suc n) k me → AllSome (WriterFits n) w → NowFits me n k now
+    → MoveFits me (suc n) k 1 (flushes me now w)
+flushes_fits me n k now None args writer fit = refuses_fits me (suc n) k 1 now why.NoWriter args.number (now_more me n k (suc n) now (omega arith) fit)
+flushes_fits me n k now (Some w) args writer fit =
+    sends_fits me n k now w (log_flushes (log_now w)) args writer fit
     (flush_fit (set_most * n) (2 * n) (log_now w) (omega (arith, args.calls)) (omega (arith, args.calls)) writer.log)
 
 -- ---- commit and close
 
 -- a close goes on with its requests
-close_goes_fits : (me : ClientArgs) (n more : ℕ) (now : ClientNow) (o : Order) (acts : Acts) (args : CloseArgs)
-    → IsClient me.number → OrderFits me o → NowFits me n now → ActsFit more acts → MoveFits me n more (begins_close me now o acts args)
-close_goes_fits me n more now o acts args c order fit acted =
-    goes_fits me n more now (order_doing o (Closes args [])) acts Any (close_first args).1 _ c (record { stream = order.stream; doing = tt }) fit acted
-    (any_next (close_first args).1) (λ u p. waits_fits me n more now o acts order fit acted)
+close_goes_fits : (me : ClientArgs) (n k more : ℕ) (now : ClientNow) (o : Order) (acts : Acts) (args : CloseArgs)
+    → IsClient me.number → OrderFits me k o → NowFits me n k now → ActsFit more acts → MoveFits me n k more (begins_close me now o acts args)
+close_goes_fits me n k more now o acts args c order fit acted =
+    goes_fits me n k more now (order_doing o (Closes args [])) acts Any (close_first args).1 _ c (record { stream = order.stream; doing = tt }) fit acted
+    (any_next (close_first args).1) (λ u p. waits_fits me n k more now o acts order fit acted)
 
 -- a commit or a close goes on
-log_goes_fits : (me : ClientArgs) (n more most : ℕ) (now : ClientNow) (w : WriterView) (o : Order) (acts : Acts) (doing : Doing) (state : LogState)
-    → IsClient me.number → IsName w.stream → IsU64 w.opened.segment → most ≤ most_u64 → ToldUpTo most state → OrderFits me o → NowFits me n now → ActsFit more acts
-    → MoveFits me n more (log_goes_on me now w o acts doing state)
+log_goes_fits : (me : ClientArgs) (n k more most : ℕ) (now : ClientNow) (w : WriterView) (o : Order) (acts : Acts) (doing : Doing) (state : LogState)
+    → IsClient me.number → IsName w.stream → IsU64 w.opened.segment → most ≤ most_u64 → ToldUpTo most state → OrderFits me k o → NowFits me n k now
+    → ActsFit more acts
+    → MoveFits me n k more (log_goes_on me now w o acts doing state)
 unfolding log_goes_on
-log_goes_fits me n more most now w o acts Commits (HasCommitted control) c name segment k told order fit acted =
-    ends_fits me n more now o acts (event.Committed w.stream (place w.opened.segment control 0)) fit acted
-    (name, (segment, ((omega arith, omega (arith, k, told)), (omega arith, omega arith))))
-log_goes_fits me n more most now w o acts Commits (IsFenced bookie) c name segment k told order fit acted =
-    ends_fits me n more now o acts (refusal_event me (why.Fenced bookie)) fit acted c
-log_goes_fits me n more most now w o acts Confirms (MayClose entries rows last) c name segment k told order fit acted =
-    close_goes_fits me n more now o acts (close_args w entries rows last) c order fit acted
-log_goes_fits me n more most now w o acts Confirms (IsFenced bookie) c name segment k told order fit acted =
-    ends_fits me n more now o acts (refusal_event me (why.Fenced bookie)) fit acted c
-log_goes_fits me n more most now w o acts doing state c name segment k told order fit acted = waits_fits me n more now o acts order fit acted
+log_goes_fits me n k more most now w o acts Commits (HasCommitted control) c name segment small told order fit acted =
+    ends_fits me n k more now o acts (event.Committed w.stream (place w.opened.segment control 0)) fit acted
+    (name, (segment, ((omega arith, omega (arith, small, told)), (omega arith, omega arith))))
+log_goes_fits me n k more most now w o acts Commits (IsFenced bookie) c name segment small told order fit acted =
+    ends_fits me n k more now o acts (refusal_event me (why.Fenced bookie)) fit acted c
+log_goes_fits me n k more most now w o acts Confirms (MayClose entries rows last) c name segment small told order fit acted =
+    close_goes_fits me n k more now o acts (close_args w entries rows last) c order fit acted
+log_goes_fits me n k more most now w o acts Confirms (IsFenced bookie) c name segment small told order fit acted =
+    ends_fits me n k more now o acts (refusal_event me (why.Fenced bookie)) fit acted c
+log_goes_fits me n k more most now w o acts doing state c name segment small told order fit acted = waits_fits me n k more now o acts order fit acted
 
 -- the order under way goes on
-order_goes_fits : (me : ClientArgs) (n more : ℕ) (now : ClientNow) (w : WriterView) (acts : Acts) (o : Option Order)
-    → IsClient me.number → 2 * n ≤ most_u64 → WriterFits n w → AllSome (OrderFits me) o → NowFits me n now → ActsFit more acts
-    → MoveFits me n more (order_goes_on me now w acts o)
-order_goes_fits me n more now w acts None c k writer order fit acted = record { now = fit; acts = acted }
-order_goes_fits me n more now w acts (Some o) c k writer order fit acted =
-    log_goes_fits me n more (2 * n) now w o acts o.doing (log_state (log_now w)) c writer.stream writer.segment k
+order_goes_fits : (me : ClientArgs) (n k more : ℕ) (now : ClientNow) (w : WriterView) (acts : Acts) (o : Option Order)
+    → IsClient me.number → 2 * n ≤ most_u64 → WriterFits n w → AllSome (OrderFits me k) o → NowFits me n k now → ActsFit more acts
+    → MoveFits me n k more (order_goes_on me now w acts o)
+order_goes_fits me n k more now w acts None c small writer order fit acted = record { now = fit; acts = acted }
+order_goes_fits me n k more now w acts (Some o) c small writer order fit acted =
+    log_goes_fits me n k more (2 * n) now w o acts o.doing (log_state (log_now w)) c writer.stream writer.segment small
     (state_fit (set_most * n) (2 * n) (log_now w) writer.log) order fit acted
 
 -- a commit or a close that begins, or is refused
-begins_on_fits : (me : ClientArgs) (n : ℕ) (now : ClientNow) (line : ℕ) (w : WriterView) (doing : Doing) (call : LogCall) (result : Result LogMove Refusal)
-    → ArgsFit (suc n) me → IsCall call → ((o : Order) → DoingFits me o doing) → WriterFits n w → NowFits me n now
-    → CallFits (set_most * n + set_most) (suc (suc (2 * n))) result → MoveFits me (suc n) 1 (begins_on_log me now line w doing call result)
-begins_on_fits me n now line w doing call (Err r) args is does writer fit result =
-    refuses_call_fits me (suc n) 1 now w call r args.number
-    (call_fits n w call (omega (arith, args.calls)) (omega (arith, args.calls)) is writer) (now_more me n (suc n) now (omega arith) fit)
-begins_on_fits me n now line w doing call (Ok m) args is does writer fit result =
+begins_on_fits : (me : ClientArgs) (n k : ℕ) (now : ClientNow) (line : ℕ) (w : WriterView) (doing : Doing) (call : LogCall) (result : Result LogMove Refusal)
+    → ArgsFit (suc n) k me → IsCall call → ((o : Order) → DoingFits me k o doing) → WriterFits n w → NowFits me n k now
+    → CallFits (set_most * n + set_most) (suc (suc (2 * n))) result → MoveFits me (suc n) k 1 (begins_on_log me now line w doing call result)
+begins_on_fits me n k now line w doing call (Err r) args is does writer fit result =
+    refuses_call_fits me (suc n) k 1 now w call r args.number
+    (call_fits n w call (omega (arith, args.calls)) (omega (arith, args.calls)) is writer) (now_more me n k (suc n) now (omega arith) fit)
+begins_on_fits me n k now line w doing call (Ok m) args is does writer fit result =
     let o : Order = record { line = line; stream = w.stream; doing = doing } in
-    let order : OrderFits me o = record { stream = writer.stream; doing = does o } in
+    let order : OrderFits me k o = record { stream = writer.stream; doing = does o } in
     let next : WriterView = with_call w call in
     let called : WriterFits (suc n) next = call_fits n w call (omega (arith, args.calls)) (omega (arith, args.calls)) is writer in
-    let begun = with_fits me (suc n) now o order (now_more me n (suc n) now (omega arith) fit) in
-    order_goes_fits me (suc n) 1 (with_writer (with_order now o) next) next (move_acts me w m) (Some o) args.number (omega (arith, args.calls)) called order
-    (writer_fits me (suc n) (with_order now o) next called begun)
-    (move_acts_fit me n 1 (set_most * n + set_most) (suc (suc (2 * n))) w m args.number (omega (arith, args.calls)) writer result)
+    let begun = with_fits me (suc n) k now o order (now_more me n k (suc n) now (omega arith) fit) in
+    order_goes_fits me (suc n) k 1 (with_writer (with_order now o) next) next (move_acts me w m) (Some o) args.number (omega (arith, args.calls)) called order
+    (writer_fits me (suc n) k (with_order now o) next called begun)
+    (move_acts_fit me n k 1 (set_most * n + set_most) (suc (suc (2 * n))) w m args.number (omega (arith, args.calls)) writer result)
 
 -- a commit begins
-pub commit_fits : (me : ClientArgs) (n : ℕ) (now : ClientNow) (line : ℕ) (w : Option WriterView) → ArgsFit (suc n) me → AllSome (WriterFits n) w
-    → NowFits me n now → MoveFits me (suc n) 1 (begins_commit me now line w)
-commit_fits me n now line None args writer fit = refuses_fits me (suc n) 1 now why.NoWriter args.number (now_more me n (suc n) now (omega arith) fit)
-commit_fits me n now line (Some w) args writer fit =
-    begins_on_fits me n now line w Commits log.Commits (commits (log_now w)) args tt (λ o. tt) writer fit
+pub commit_fits : (me : ClientArgs) (n k : ℕ) (now : ClientNow) (line : ℕ) (w : Option WriterView) → ArgsFit (suc n) k me → AllSome (WriterFits n) w
+    → NowFits me n k now → MoveFits me (suc n) k 1 (begins_commit me now line w)
+commit_fits me n k now line None args writer fit = refuses_fits me (suc n) k 1 now why.NoWriter args.number (now_more me n k (suc n) now (omega arith) fit)
+commit_fits me n k now line (Some w) args writer fit =
+    begins_on_fits me n k now line w Commits log.Commits (commits (log_now w)) args tt (λ o. tt) writer fit
     (commit_fit (set_most * n) (2 * n) (log_now w) (omega (arith, args.calls)) (omega (arith, args.calls)) writer.log)
 
 -- a close begins
-pub confirm_fits : (me : ClientArgs) (n : ℕ) (now : ClientNow) (line : ℕ) (w : Option WriterView) → ArgsFit (suc n) me → AllSome (WriterFits n) w
-    → NowFits me n now → MoveFits me (suc n) 1 (begins_confirm me now line w)
-confirm_fits me n now line None args writer fit = refuses_fits me (suc n) 1 now why.NoWriter args.number (now_more me n (suc n) now (omega arith) fit)
-confirm_fits me n now line (Some w) args writer fit =
-    begins_on_fits me n now line w Confirms log.Closes (closes (log_now w)) args tt (λ o. tt) writer fit
+pub confirm_fits : (me : ClientArgs) (n k : ℕ) (now : ClientNow) (line : ℕ) (w : Option WriterView) → ArgsFit (suc n) k me → AllSome (WriterFits n) w
+    → NowFits me n k now → MoveFits me (suc n) k 1 (begins_confirm me now line w)
+confirm_fits me n k now line None args writer fit = refuses_fits me (suc n) k 1 now why.NoWriter args.number (now_more me n k (suc n) now (omega arith) fit)
+confirm_fits me n k now line (Some w) args writer fit =
+    begins_on_fits me n k now line w Confirms log.Closes (closes (log_now w)) args tt (λ o. tt) writer fit
     (close_fit (set_most * n) (2 * n) (log_now w) (omega (arith, args.calls)) (omega (arith, args.calls)) writer.log)
 
 -- ---- what the writer hears
 
 -- an answer to an entry
-pub writer_hears_fits : (me : ClientArgs) (n : ℕ) (now : ClientNow) (w : Option WriterView) (ledger b : ℕ) (m : Msg)
-    → ArgsFit n me → AllSome (WriterFits n) w → NowFits me n now → MoveFits me n 0 (writer_hears me now w ledger b m)
-writer_hears_fits me n now None ledger b m args writer fit = stays_fits me n 0 now fit
-writer_hears_fits me n now (Some w) ledger b m args writer fit =
+pub writer_hears_fits : (me : ClientArgs) (n k : ℕ) (now : ClientNow) (w : Option WriterView) (ledger b : ℕ) (m : Msg)
+    → ArgsFit n k me → AllSome (WriterFits n) w → NowFits me n k now → MoveFits me n k 0 (writer_hears me now w ledger b m)
+writer_hears_fits me n k now None ledger b m args writer fit = stays_fits me n k 0 now fit
+writer_hears_fits me n k now (Some w) ledger b m args writer fit =
     let next : WriterView = with_call w (HearsFrom b m) in
     let heard : WriterFits n next = hears_fits n w b m writer in
-    cond_both (MoveFits me n 0) (ledger == w.opened.ledger) (after_call me now w (HearsFrom b m) (log_hears (log_now w) b m)) (stays now no_acts)
-    (order_goes_fits me n 0 (with_writer now next) next (move_acts me w (log_hears (log_now w) b m)) now.order args.number (omega (arith, args.calls)) heard
-    fit.order (writer_fits me n now next heard fit)
-    (move_acts_fit me n 0 (set_most * n) (2 * n) w (log_hears (log_now w) b m) args.number (omega (arith, args.calls)) writer
+    cond_both (MoveFits me n k 0) (ledger == w.opened.ledger) (after_call me now w (HearsFrom b m) (log_hears (log_now w) b m)) (stays now no_acts)
+    (order_goes_fits me n k 0 (with_writer now next) next (move_acts me w (log_hears (log_now w) b m)) now.order args.number (omega (arith, args.calls)) heard
+    fit.order (writer_fits me n k now next heard fit)
+    (move_acts_fit me n k 0 (set_most * n) (2 * n) w (log_hears (log_now w) b m) args.number (omega (arith, args.calls)) writer
     (hears_fit (set_most * n) (2 * n) (log_now w) b m writer.log)))
-    (stays_fits me n 0 now fit)
+    (stays_fits me n k 0 now fit)

@@ -1,8 +1,8 @@
 -- What is known of the values of events by the lines of the schedule.
-use Rattle.std.specs.Prelude.{ℕ, suc, ◌+◌, ◌*◌, ◌≤◌, List, [], ◌∷◌}
+use Rattle.std.specs.Prelude.{ℕ, suc, ◌+◌, ◌*◌, ◌≤◌, List, [], ◌∷◌, length}
 use Rattle.std.specs.List.{AllByRecursion}
 use Rattle.dl_text.specs.NameFields.{IsName}
-use Rattle.dl_text.specs.Numbers.{most_u32}
+use Rattle.dl_text.specs.Numbers.{most_u32, most_u64}
 use Rattle.dl_schedule.specs.declared.step.TheConstants.{MAX_SET}
 use Rattle.dl_schedule.specs.StepLines.{IsStep, IsClient}
 use Rattle.dl_transcript.specs.declared.event.Event.{Event}
@@ -32,7 +32,7 @@ FitsItsLine (Closed stream k) = Unit {0}
 FitsItsLine (Recovered c stream d) = IsEvent (Recovered c stream d)
 FitsItsLine (Point stream d) = Unit {0}
 FitsItsLine (Truncated c stream d) = IsEvent (Truncated c stream d)
-FitsItsLine (Purged c stream count) = IsClient c × IsName stream
+FitsItsLine (Purged c stream count) = IsEvent (Purged c stream count)
 FitsItsLine (OpenedAt c stream d) = IsClient c × IsName stream
 FitsItsLine (OpenedFrom c stream txid) = IsEvent (OpenedFrom c stream txid)
 FitsItsLine (Reading c stream) = IsEvent (Reading c stream)
@@ -57,12 +57,14 @@ lines_in (Came l ∷ view) = lines_in view
 abbrev pub set_most : ℕ
 set_most = MAX_SET
 
--- A client that takes at most so many lines: their records have numbers of 32 bits.
-pub record ArgsFit (lines : ℕ) (me : ClientArgs) : Type 0 where
+-- A client that takes at most so many lines, and so many lines and letters: the records of the
+-- lines have numbers of 32 bits, and all that it takes can be counted in 64 bits.
+pub record ArgsFit (lines inputs : ℕ) (me : ClientArgs) : Type 0 where
   pub number : IsClient me.number
   pub calls : me.calls + set_most * lines ≤ most_u32
+  pub counted : inputs ≤ most_u64
 
 -- What a client shows as it takes something fits its line, where the lines that it took are such as the grammar takes.
 abbrev pub ClientEventsFit : Type 0
-ClientEventsFit = (me : ClientArgs) (view : List Input) (x : Input) → ArgsFit (lines_in (x ∷ view)) me
+ClientEventsFit = (me : ClientArgs) (view : List Input) (x : Input) → ArgsFit (lines_in (x ∷ view)) (length (x ∷ view)) me
     → AllByRecursion IsInput (x ∷ view) → AllByRecursion FitsItsLine (acts_of me view x).events
