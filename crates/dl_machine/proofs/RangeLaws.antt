@@ -10,21 +10,23 @@ use Rattle.dl_text.specs.TextLines.{lines_of}
 use Rattle.dl_schedule.specs.StepReading.{parsed_line}
 use Rattle.dl_schedule.proofs.StepExactness.{step_exact}
 use Rattle.dl_schedule.proofs.WholeLines.{reading_found}
+use Rattle.dl_msg.specs.declared.letter.Letter.{Letter}
 use Rattle.dl_schedule.specs.declared.node.Node as target
 use Rattle.dl_schedule.specs.declared.node.Node.TheVariants as node
 use Rattle.dl_schedule.specs.declared.step.Step.{Step}
 use Rattle.dl_schedule.specs.declared.step.Step.TheVariants as step
-use Rattle.dl_schedule.specs.StepLines.{IsStep}
+use Rattle.dl_schedule.specs.StepLines.{IsStep, IsLink}
 use Rattle.dl_transcript.specs.declared.event.Event.{Event}
 use Rattle.dl_transcript.specs.declared.event.Event.TheVariants as event
 use Rattle.dl_transcript.specs.Lines.{numbered, print_event, print_transcript}
 use Rattle.dl_transcript.specs.Ranges.{IsU32}
 use Rattle.dl_rules_nodes.specs.Metadata.{meta_from}
-use Rattle.dl_rules_client.specs.EventRanges.{FitsItsLine}
+use Rattle.dl_rules_client.specs.EventRanges.{FitsItsLine, LetterFits}
 use Rattle.dl_rules_client.proofs.RangeLists.{all-append}
 use Rattle.dl_machine.specs.States.{State, blank, bookies_of}
 use Rattle.dl_machine.specs.Atoms.{Atom, SetUp, Join, Crash, End, Order, Deliver, Commit, Stop, StopMeta, Kill, KillMeta, Rise, RiseMeta, Lose, Shows, atom}
-use Rattle.dl_machine.specs.Lines.{Mail, links, conf_of, is_idle, is_kept, place_of, at_place, kill_of, rise_of, order_of, client_in, plain_atoms}
+use Rattle.dl_machine.specs.Lines.{Mail, with_mail, first_mail, comes_before, is_on, links, conf_of, is_idle, is_kept, place_of, at_place, kill_of, rise_of}
+use Rattle.dl_machine.specs.Lines.{order_of, client_in, plain_atoms}
 use Rattle.dl_machine.specs.Limits.{Past, past_where, first_past, most_lines, most_schedule, turn_limit}
 use Rattle.dl_machine.specs.Replays.{Replay, Going, first_going, past_schedule, run_atoms, going_behind, after_line, run_line, take_line, replay_from}
 use Rattle.dl_machine.specs.Replays.{replay, replay_text}
@@ -102,10 +104,29 @@ free-append n m (x ∷ xs) ys a b =
     let rest = free-append (all_takings xs) m xs ys (record { each = a.each.1; free = none; taken = omega arith }) b in
     record { each = (a.each.0, rest.each); free = omega (arith, cheap, rest.free); taken = omega (arith, a.taken, rest.taken) }
 
+-- a link that has letters
+abbrev IsMail : Mail → Type 0
+IsMail m = IsLink m.from m.to × (1 ≤ m.count)
+
+-- a letter more on links
+with_mail_fits : (l : Letter) (ms : List Mail) → LetterFits l → AllByRecursion IsMail ms → AllByRecursion IsMail (with_mail l ms)
+with_mail_fits l [] link each = ((link, omega arith), tt)
+with_mail_fits l (m ∷ ms) link each =
+    cond_both (AllByRecursion IsMail) (is_on m.from m.to l) _ _ ((each.0.0, omega arith), each.1)
+    (cond_both (AllByRecursion IsMail) (comes_before l m) (first_mail l ∷ m ∷ ms) (m ∷ with_mail l ms) ((link, omega arith), each)
+    (each.0, with_mail_fits l ms link each.1))
+
+-- the links of letters
+links_fit : (ls : List Letter) → AllByRecursion LetterFits ls → AllByRecursion IsMail (links ls)
+unfolding links
+links_fit [] each = tt
+links_fit (l ∷ ls) each = with_mail_fits l (links ls) each.0 (links_fit ls each.1)
+
 -- links are shown
-mails_fit : (ms : List Mail) → AreFree 0 (map Shows (map (λ (m : Mail). event.Mail m.from m.to m.count) ms))
-mails_fit [] = record { each = tt; free = refl; taken = omega arith }
-mails_fit (m ∷ ms) = let rest = mails_fit ms in record { each = (tt, rest.each); free = omega (arith, rest.free); taken = omega (arith, rest.taken) }
+mails_fit : (ms : List Mail) → AllByRecursion IsMail ms → AreFree 0 (map Shows (map (λ (m : Mail). event.Mail m.from m.to m.count) ms))
+mails_fit [] each = record { each = tt; free = refl; taken = omega arith }
+mails_fit (m ∷ ms) each =
+    let rest = mails_fit ms each.1 in record { each = (each.0, rest.each); free = omega (arith, rest.free); taken = omega (arith, rest.taken) }
 
 -- a letter is delivered
 deliver_fits : (place : Option ℕ) → LineFits (at_place Deliver place)
@@ -133,22 +154,22 @@ order_fits line x None is = record { each = tt; few = omega arith; taken = omega
 order_fits line x (Some c) is = one_fits (Order c line x) is (omega arith) (omega arith)
 
 -- the atomic steps of a line that doesn't settle
-plain_fits : (s : State) (line : ℕ) (x : Step) → IsStep x → LineFits (plain_atoms s line x)
+plain_fits : (s : State) (line : ℕ) (x : Step) → AllByRecursion LetterFits s.letters → IsStep x → LineFits (plain_atoms s line x)
 unfolding plain_atoms
-plain_fits s line (step.Setup b e w a) is = one_fits (SetUp (conf_of b e w a)) tt (omega arith) (omega arith)
-plain_fits s line (step.Join c) is = one_fits (Join c) is (omega arith) (omega arith)
-plain_fits s line (step.Crash c) is = one_fits (Crash c) tt (omega arith) (omega arith)
-plain_fits s line (step.Expire k) is = one_fits (End k) is (omega arith) (omega arith)
-plain_fits s line (step.Deliver from to n) is = deliver_fits (place_of s.letters from to n)
-plain_fits s line (step.Sync b) is = one_fits (Commit b) tt (omega arith) (omega arith)
-plain_fits s line (step.Lose b) is = one_fits (Lose b) tt (omega arith) (omega arith)
-plain_fits s line (step.Stop b call kept) is = one_fits (Stop b (is_kept call kept)) tt (omega arith) (omega arith)
-plain_fits s line (step.StopMeta c n call kept) is = stop_fits (is_kept call kept) _
-plain_fits s line (step.Kill x) is = kill_fits x
-plain_fits s line (step.Up x) is = rise_fits x
-plain_fits s line step.Settle is = record { each = tt; few = omega arith; taken = omega arith }
-plain_fits s line step.Mail is = free_line 0 _ (omega arith) (mails_fit (links s.letters))
-plain_fits s line x is = order_fits line x (client_in x) is
+plain_fits s line (step.Setup b e w a) mail is = one_fits (SetUp (conf_of b e w a)) is.0 (omega arith) (omega arith)
+plain_fits s line (step.Join c) mail is = one_fits (Join c) is (omega arith) (omega arith)
+plain_fits s line (step.Crash c) mail is = one_fits (Crash c) tt (omega arith) (omega arith)
+plain_fits s line (step.Expire k) mail is = one_fits (End k) is (omega arith) (omega arith)
+plain_fits s line (step.Deliver from to n) mail is = deliver_fits (place_of s.letters from to n)
+plain_fits s line (step.Sync b) mail is = one_fits (Commit b) tt (omega arith) (omega arith)
+plain_fits s line (step.Lose b) mail is = one_fits (Lose b) tt (omega arith) (omega arith)
+plain_fits s line (step.Stop b call kept) mail is = one_fits (Stop b (is_kept call kept)) tt (omega arith) (omega arith)
+plain_fits s line (step.StopMeta c n call kept) mail is = stop_fits (is_kept call kept) _
+plain_fits s line (step.Kill x) mail is = kill_fits x
+plain_fits s line (step.Up x) mail is = rise_fits x
+plain_fits s line step.Settle mail is = record { each = tt; few = omega arith; taken = omega arith }
+plain_fits s line step.Mail mail is = free_line 0 _ (omega arith) (mails_fit (links s.letters) (links_fit s.letters mail))
+plain_fits s line x mail is = order_fits line x (client_in x) is
 
 -- ---- settling
 
@@ -195,20 +216,20 @@ settle_fits s = subst LineFits (sym (failures_aside.settling turn_limit 0 s)) (f
 -- ---- lines
 
 -- the atomic steps of a line, where no device fails
-lucky_fits : (s : State) (line : ℕ) (x : Step) → IsStep x → LineFits (with_luck well 0 (plain_atoms s line x))
-lucky_fits s line x is = subst LineFits (sym (failures_aside.steps 0 (plain_atoms s line x))) (plain_fits s line x is)
+lucky_fits : (s : State) (line : ℕ) (x : Step) → AllByRecursion LetterFits s.letters → IsStep x → LineFits (with_luck well 0 (plain_atoms s line x))
+lucky_fits s line x mail is = subst LineFits (sym (failures_aside.steps 0 (plain_atoms s line x))) (plain_fits s line x mail is)
 
 -- the same of a line that changes something
-busy_fits : (s : State) (line : ℕ) (x : Step) → IsStep x → LineFits (busy_atoms well s line x)
-busy_fits s line step.Settle is = settle_fits s
-busy_fits s line x is = lucky_fits s line x is
+busy_fits : (s : State) (line : ℕ) (x : Step) → AllByRecursion LetterFits s.letters → IsStep x → LineFits (busy_atoms well s line x)
+busy_fits s line step.Settle mail is = settle_fits s
+busy_fits s line x mail is = lucky_fits s line x mail is
 
 -- the atomic steps of a line
-line_fits : (s : State) (line : ℕ) (x : Step) → IsStep x → LineFits (line_atoms well s line x)
+line_fits : (s : State) (line : ℕ) (x : Step) → AllByRecursion LetterFits s.letters → IsStep x → LineFits (line_atoms well s line x)
 unfolding line_atoms
-line_fits s line x is =
+line_fits s line x mail is =
     cond_both LineFits (is_idle s x) (Shows event.Nothing ∷ []) (busy_atoms well s line x) (one_fits (Shows event.Nothing) tt (omega arith) (omega arith))
-    (busy_fits s line x is)
+    (busy_fits s line x mail is)
 
 -- ---- runs
 
@@ -231,7 +252,7 @@ unfolding run step_with
 run_fits n s line [] at few is fit = tt
 run_fits n s line (x ∷ xs) at few is fit =
     let atoms : List Atom = line_atoms well s line x in
-    let its = line_fits s line x is.0 in
+    let its = line_fits s line x fit.letters is.0 in
     let here : suc n ≤ most_lines = omega (arith, few) in
     let rest : suc n + length xs ≤ most_lines = omega (arith, few) in
     let row = row_behind n s atoms here its fit in
@@ -242,7 +263,15 @@ run_fits n s line (x ∷ xs) at few is fit =
 -- before a setup
 blank_fits : StateFits 0 0 blank
 unfolding meta_from
-blank_fits = record { joined = λ c. tt; calls = λ c. omega arith; ledgers = λ l. tt; sessions = omega arith }
+blank_fits = record {
+  conf = tt;
+  nodes = λ b. record { bookie = tt; other = tt };
+  letters = tt;
+  joined = λ c. tt;
+  calls = λ c. omega arith;
+  ledgers = λ l. tt;
+  sessions = omega arith;
+}
 
 -- a run from the first line on
 all_fit : (steps : List Step) → AllByRecursion IsStep steps → length steps ≤ most_lines → AllByRecursion FitsAtLine (transcript steps)
@@ -291,7 +320,7 @@ read_fits : (g : Going) (line : List ℕ) (read : Result Step ℕ) (rest : Going
     → FittingText (run_line g (length line) read rest).text
 read_fits g line (Err column) rest e few fit later = no_text
 read_fits g line (Ok x) rest e few fit later =
-    let its = line_fits g.state (suc g.lines) x (reading_found step_exact line x e).0 in
+    let its = line_fits g.state (suc g.lines) x fit.letters (reading_found step_exact line x e).0 in
     after_fits g (length line) (line_atoms well g.state (suc g.lines) x) (run_atoms g (line_atoms well g.state (suc g.lines) x)).past rest few its fit later
 
 -- a line that is past no limit of the schedule is one of at most so many

@@ -22,26 +22,29 @@ use Rattle.dl_formats.specs.declared.cut.Cut.{Cut}
 use Rattle.dl_formats.specs.declared.fault.MetaBytesFault.{MetaBytesFault}
 use Rattle.dl_formats.specs.Keys as key
 use Rattle.dl_formats.specs.Reading.{cut_at}
-use Rattle.dl_rules_nodes.specs.Bookies.{taken, answer_now}
+use Rattle.dl_rules_nodes.specs.Bookies.{Bookie, Waiting, Reply, Taken, Looks, Answers, Queues, taken, answer_now, after, replies_of, committed}
 use Rattle.dl_rules_nodes.specs.Items.{MetaItem, Setup, Connect, Expire, Ask}
 use Rattle.dl_rules_nodes.specs.Metadata.{meta_from, meta_of, does, answer_of, reply_of}
 use Rattle.dl_schedule.specs.declared.step.Step.{Step}
-use Rattle.dl_schedule.specs.StepLines.{IsStep, IsClient}
+use Rattle.dl_schedule.specs.StepLines.{IsStep, IsClient, IsBookie, IsCount, IsLink}
 use Rattle.dl_transcript.specs.declared.event.Event.{Event}
 use Rattle.dl_transcript.specs.declared.event.Event.TheVariants as event
 use Rattle.dl_transcript.specs.Ranges.{IsSession}
 use Rattle.dl_rules_client.specs.Acts.{Input, Line, Came, ClientArgs, Acts, SentEntry, Confirmation}
 use Rattle.dl_rules_client.specs.Clients.{client_of, acts_of}
-use Rattle.dl_rules_client.specs.EventRanges.{FitsItsLine, IsInput, lines_in, set_most, ArgsFit}
-use Rattle.dl_rules_client.proofs.RangeLists.{AllSome, all-append, all-last, all-take, all-drop, all-map, all-flat}
+use Rattle.dl_rules_client.specs.EventRanges.{LetterFits, FitsItsLine, IsInput, lines_in, set_most, ArgsFit}
+use Rattle.dl_rules_client.proofs.RangeLists.{all-get, AllSome, all-append, all-last, all-take, all-drop, all-map, all-flat}
 use Rattle.dl_rules_client.proofs.LogRanges.{IsRow}
 use Rattle.dl_rules_client.proofs.ClientRanges.{ActsFit, SentFits}
 use Rattle.dl_rules_client.proofs.InputRanges.{client_fits, fewer, taken_line_fits, taken_letter_fits}
-use Rattle.dl_machine.specs.States.{State, Outcome, Joined, LedgerSeen, put, with_client, with_letters, with_meta_item, marks, quietly, then_shows}
+use Rattle.dl_machine.specs.States.{Node, Mode, Up, Down, Lost, is_up, with_node, with_bookie, State, Outcome, Joined, LedgerSeen, put, with_client}
+use Rattle.dl_machine.specs.States.{with_letters, with_meta_item, marks, quietly, then_shows}
 use Rattle.dl_machine.specs.States.{can_take, args_of}
 use Rattle.dl_machine.specs.Growth.{grow_event, entries_to_grow, grown_to, grows, with_entry, with_sent, confirms, stream_in, Closing, closes}
 use Rattle.dl_machine.specs.Growth.{closing_with, point_events, points_by, is_done, ops_of, shows_op, shows_ops, shows_run}
-use Rattle.dl_machine.specs.Atoms.{Atom, SetUp, Join, Crash, End, Order, Deliver, Commit, Stop, StopMeta, Faint, Kill, KillMeta, Rise, RiseMeta, Loosen}
+use Rattle.dl_machine.specs.Atoms.{commits, answer_to, takes_row, reply_letter, stopped_node, killed_node, risen_node, swapped_node, loosened_node}
+use Rattle.dl_machine.specs.Atoms.{lost_node, Atom}
+use Rattle.dl_machine.specs.Atoms.{SetUp, Join, Crash, End, Order, Deliver, Commit, Stop, StopMeta, Faint, Kill, KillMeta, Rise, RiseMeta, Loosen}
 use Rattle.dl_machine.specs.Atoms.{Lose, Shows, MetaRequest, meta_in, request_in, admit_in, sets_up, new_process, joins, joins_in, ends, acts_on}
 use Rattle.dl_machine.specs.Atoms.{client_takes, with_answer, bookie_takes, runs, admits, reply_msg, meta_takes, takes_letter, delivers}
 use Rattle.dl_machine.specs.Atoms.{faints_at, faints, stops_run, stops_request, stops_msg, stops_meta, atom}
@@ -57,9 +60,30 @@ pub record JoinedFits (lines inputs c : ℕ) (me : Joined) : Type 0 where
   pub few : length me.view ≤ inputs
   pub calls : me.calls + set_most * lines_in me.view ≤ set_most * lines
 
--- The parts of a state, where at most so many lines were run, and so many lines and letters taken: the clients, the counts of their
--- records, the ledgers, and the last session.
-pub record PartsFit (lines inputs : ℕ) (clients : ℕ → Option Joined) (counts : ℕ → ℕ) (seen : ℕ → LedgerSeen) (last : ℕ) : Type 0 where
+-- a world has 1 to 16 storage nodes
+abbrev pub ConfFits : Conf → Type 0
+ConfFits conf = IsCount conf.b
+
+-- a reply that waits is one of a storage node to a client
+abbrev pub WaitingFits : ℕ → Waiting → Type 0
+WaitingFits b w = IsBookie b × IsClient w.client
+
+-- the replies that wait at a storage node
+abbrev pub QueueFits : ℕ → Bookie → Type 0
+QueueFits b k = AllByRecursion (WaitingFits b) k.queue
+
+-- A storage node, and the other list that its disk may hold.
+pub record NodeFits (b : ℕ) (n : Node) : Type 0 where
+  pub bookie : QueueFits b n.bookie
+  pub other : AllSome (QueueFits b) n.other
+
+-- The parts of a state, where at most so many lines were run, and so many lines and letters taken: the
+-- configuration, the storage nodes, the letters, the clients, the counts of their records, the ledgers, and the last session.
+pub record PartsFit (lines inputs : ℕ) (world : Option Conf) (held : ℕ → Node) (sent : List Letter) (clients : ℕ → Option Joined) (counts : ℕ → ℕ)
+    (seen : ℕ → LedgerSeen) (last : ℕ) : Type 0 where
+  pub conf : AllSome ConfFits world
+  pub nodes : (b : ℕ) → NodeFits b (held b)
+  pub letters : AllByRecursion LetterFits sent
   pub joined : (c : ℕ) → AllSome (JoinedFits lines inputs c) (clients c)
   pub calls : (c : ℕ) → counts c ≤ set_most * lines
   pub ledgers : (l : ℕ) → AllByRecursion SentFits (seen l).sent
@@ -67,7 +91,7 @@ pub record PartsFit (lines inputs : ℕ) (clients : ℕ → Option Joined) (coun
 
 -- a state
 abbrev pub StateFits : (lines inputs : ℕ) → State → Type 0
-StateFits lines inputs s = PartsFit lines inputs s.clients s.calls s.ledgers (meta_in s).sessions.last
+StateFits lines inputs s = PartsFit lines inputs s.conf s.nodes s.letters s.clients s.calls s.ledgers (meta_in s).sessions.last
 
 -- A state, and what is shown with it.
 pub record OutcomeFits (lines inputs : ℕ) (o : Outcome) : Type 0 where
@@ -83,6 +107,9 @@ joined_more n m i j c (Some me) h g fit =
 -- a state behind lines more
 pub state_more : (n m i j : ℕ) (s : State) → n ≤ m → i ≤ j → StateFits n i s → StateFits m j s
 state_more n m i j s h g fit = record {
+  conf = fit.conf;
+  nodes = fit.nodes;
+  letters = fit.letters;
   joined = λ c. joined_more n m i j c (s.clients c) h g (fit.joined c);
   calls = λ c. omega (arith, h, fit.calls c);
   ledgers = fit.ledgers;
@@ -101,8 +128,11 @@ then_fits n i o es fit each = record { state = fit.state; events = all-append Fi
 
 -- a ledger is now this one
 ledger_fits : (n i : ℕ) (s : State) (l : ℕ) (g : LedgerSeen) → AllByRecursion SentFits g.sent → StateFits n i s
-    → PartsFit n i s.clients s.calls (put s.ledgers l g) (meta_in s).sessions.last
+    → PartsFit n i s.conf s.nodes s.letters s.clients s.calls (put s.ledgers l g) (meta_in s).sessions.last
 ledger_fits n i s l g is fit = record {
+  conf = fit.conf;
+  nodes = fit.nodes;
+  letters = fit.letters;
   joined = fit.joined;
   calls = fit.calls;
   ledgers = put_each s.ledgers l g (λ j x. AllByRecursion SentFits x.sent) is fit.ledgers;
@@ -179,6 +209,9 @@ acts_fit n more m i s c me x acts h is did fit =
     let told : State = record (with_letters (with_client s c process) acts.letters) { calls = put s.calls c (s.calls c + acts.taken) } in
     let later = state_more n m i (suc i) s (omega (arith, h)) (omega arith) fit in
     let base : StateFits m (suc i) told = record {
+      conf = later.conf;
+      nodes = later.nodes;
+      letters = all-append LetterFits s.letters acts.letters later.letters did.letters;
       joined = put_each s.clients c process (λ j p. AllSome (JoinedFits m (suc i) j) p) is later.joined;
       calls = put_each s.calls c (s.calls c + acts.taken) (λ j k. k ≤ set_most * m) (omega (arith, h, fit.calls c, did.taken)) later.calls;
       ledgers = later.ledgers;
@@ -188,27 +221,27 @@ acts_fit n more m i s c me x acts h is did fit =
     (confirms_fit m (suc i) (with_sent told acts.sent) acts.confirmed (sent_fits m (suc i) told acts.sent did.sent base)) did.events
 
 -- what a client is started with
-args_fit : (n c : ℕ) (conf : Conf) (me : Joined) (view : List Input) → n ≤ most_lines → length view ≤ most_u64 → IsClient c
+args_fit : (n c : ℕ) (conf : Conf) (me : Joined) (view : List Input) → ConfFits conf → n ≤ most_lines → length view ≤ most_u64 → IsClient c
     → me.calls + set_most * lines_in view ≤ set_most * n → ArgsFit (lines_in view) (length view) (args_of conf c me)
-args_fit n c conf me view few counted number calls = record { number = number; calls = omega (arith, few, calls); counted = counted }
+args_fit n c conf me view world few counted number calls = record { number = number; count = world; calls = omega (arith, few, calls); counted = counted }
 
 -- a client takes a line
 line_fits : (n i : ℕ) (s : State) (c : ℕ) (conf : Option Conf) (me : Option Joined) (line : ℕ) (x : Step) → suc n ≤ most_lines → suc i ≤ most_u64 → IsStep x
-    → AllSome (JoinedFits n i c) me → StateFits n i s → OutcomeFits (suc n) (suc i) (client_takes s c conf me (Line line x))
-line_fits n i s c (Some conf) (Some me) line x few small is mine fit =
+    → AllSome ConfFits conf → AllSome (JoinedFits n i c) me → StateFits n i s → OutcomeFits (suc n) (suc i) (client_takes s c conf me (Line line x))
+line_fits n i s c (Some conf) (Some me) line x few small is world mine fit =
     let view : List Input = Line line x ∷ me.view in
     let who : ClientArgs = args_of conf c me in
     let calls : me.calls + set_most * lines_in view ≤ set_most * suc n = omega (arith, mine.calls) in
     let inputs : length view ≤ suc i = omega (arith, mine.few) in
-    let args = args_fit (suc n) c conf me view few (omega (arith, inputs, small)) mine.number calls in
+    let args = args_fit (suc n) c conf me view world few (omega (arith, inputs, small)) mine.number calls in
     let now =
-        client_fits who me.view (fewer who (lines_in me.view) (lines_in view) (length me.view) (length view) (omega arith) (omega arith) args) mine.view in
+    client_fits who me.view (fewer who (lines_in me.view) (lines_in view) (length me.view) (length view) (omega arith) (omega arith) args) mine.view in
     let move = taken_line_fits who (lines_in me.view) (length me.view) (client_of who me.view) line x args is now in
     acts_fit n 1 (suc n) i s c me (Line line x) (acts_of who me.view (Line line x)) (omega arith)
     (record { number = mine.number; view = (is, mine.view); few = inputs; calls = calls }) move.acts fit
-line_fits n i s c (Some conf) None line x few small is mine fit =
+line_fits n i s c (Some conf) None line x few small is world mine fit =
     quietly_fits (suc n) (suc i) s (state_more n (suc n) i (suc i) s (omega arith) (omega arith) fit)
-line_fits n i s c None me line x few small is mine fit =
+line_fits n i s c None me line x few small is world mine fit =
     quietly_fits (suc n) (suc i) s (state_more n (suc n) i (suc i) s (omega arith) (omega arith) fit)
 
 -- a letter that no client takes
@@ -217,19 +250,19 @@ unheard_fits n i s fit = state_more n n i (suc i) s (omega arith) (omega arith) 
 
 -- a client takes a letter
 letter_fits : (n i : ℕ) (s : State) (c : ℕ) (conf : Option Conf) (me : Option Joined) (l : Letter) → n ≤ most_lines → suc i ≤ most_u64
-    → AllSome (JoinedFits n i c) me → StateFits n i s → OutcomeFits n (suc i) (client_takes s c conf me (Came l))
-letter_fits n i s c (Some conf) (Some me) l few small mine fit =
+    → AllSome ConfFits conf → AllSome (JoinedFits n i c) me → StateFits n i s → OutcomeFits n (suc i) (client_takes s c conf me (Came l))
+letter_fits n i s c (Some conf) (Some me) l few small world mine fit =
     let view : List Input = Came l ∷ me.view in
     let who : ClientArgs = args_of conf c me in
     let inputs : length view ≤ suc i = omega (arith, mine.few) in
-    let args = args_fit n c conf me view few (omega (arith, inputs, small)) mine.number mine.calls in
+    let args = args_fit n c conf me view world few (omega (arith, inputs, small)) mine.number mine.calls in
     let now =
-        client_fits who me.view (fewer who (lines_in me.view) (lines_in view) (length me.view) (length view) (omega arith) (omega arith) args) mine.view in
+    client_fits who me.view (fewer who (lines_in me.view) (lines_in view) (length me.view) (length view) (omega arith) (omega arith) args) mine.view in
     let move = taken_letter_fits who (lines_in me.view) (length me.view) (client_of who me.view) l args now in
     acts_fit n 0 n i s c me (Came l) (acts_of who me.view (Came l)) (omega arith)
     (record { number = mine.number; view = (tt, mine.view); few = inputs; calls = mine.calls }) move.acts fit
-letter_fits n i s c (Some conf) None l few small mine fit = quietly_fits n (suc i) s (unheard_fits n i s fit)
-letter_fits n i s c None me l few small mine fit = quietly_fits n (suc i) s (unheard_fits n i s fit)
+letter_fits n i s c (Some conf) None l few small world mine fit = quietly_fits n (suc i) s (unheard_fits n i s fit)
+letter_fits n i s c None me l few small world mine fit = quietly_fits n (suc i) s (unheard_fits n i s fit)
 
 -- ---- the metadata node
 
@@ -256,7 +289,15 @@ connect_last items k = omega arith
 -- an item more that leaves the last session
 item_fits : (n i : ℕ) (s : State) (x : MetaItem) → (meta_of (x ∷ s.meta.items)).sessions.last ≡ (meta_in s).sessions.last → StateFits n i s
     → StateFits n i (with_meta_item s x)
-item_fits n i s x e fit = record { joined = fit.joined; calls = fit.calls; ledgers = fit.ledgers; sessions = omega (arith, e, fit.sessions) }
+item_fits n i s x e fit = record {
+  conf = fit.conf;
+  nodes = fit.nodes;
+  letters = fit.letters;
+  joined = fit.joined;
+  calls = fit.calls;
+  ledgers = fit.ledgers;
+  sessions = omega (arith, e, fit.sessions);
+}
 
 -- a request runs
 runs_fit : (n i : ℕ) (s : State) (r : MetaRequest) → StateFits n i s → OutcomeFits n i (runs s r)
@@ -270,45 +311,141 @@ admits_fit n i s r admit.Run fit = runs_fit n i s r fit
 admits_fit n i s r admit.Old fit = quietly_fits n i s fit
 admits_fit n i s r admit.Expired fit = quietly_fits n i s fit
 
+-- letters more
+letters_more : (n i : ℕ) (s : State) (letters : List Letter) → AllByRecursion LetterFits letters → StateFits n i s → StateFits n i (with_letters s letters)
+letters_more n i s letters each fit = record {
+  conf = fit.conf;
+  nodes = fit.nodes;
+  letters = all-append LetterFits s.letters letters fit.letters each;
+  joined = fit.joined;
+  calls = fit.calls;
+  ledgers = fit.ledgers;
+  sessions = fit.sessions;
+}
+
+-- another storage node at a number
+node_fits : (n i : ℕ) (s : State) (b : ℕ) (x : Node) → NodeFits b x → StateFits n i s → StateFits n i (with_node s b x)
+node_fits n i s b x is fit = record {
+  conf = fit.conf;
+  nodes = put_each s.nodes b x NodeFits is fit.nodes;
+  letters = fit.letters;
+  joined = fit.joined;
+  calls = fit.calls;
+  ledgers = fit.ledgers;
+  sessions = fit.sessions;
+}
+
+-- a link goes both ways
+link_back : (a b : Address) → IsLink a b → IsLink b a
+link_back (Client c) (AtBookie b) is = (is.1, is.0)
+link_back (Client c) AtMeta is = is
+link_back (Client c) (Client d) is = is
+link_back (AtBookie b) (Client c) is = (is.1, is.0)
+link_back (AtBookie b) (AtBookie d) is = is
+link_back (AtBookie b) AtMeta is = is
+link_back AtMeta (Client c) is = is
+link_back AtMeta (AtBookie b) is = is
+link_back AtMeta AtMeta is = is
+
 -- an answer more
-answer_fits : (n i : ℕ) (s : State) (l : Letter) (reply : Option Msg) → StateFits n i s → StateFits n i (with_answer s l reply)
-answer_fits n i s l None fit = fit
-answer_fits n i s l (Some reply) fit = fit
+answer_fits : (n i : ℕ) (s : State) (l : Letter) (reply : Option Msg) → LetterFits l → StateFits n i s → StateFits n i (with_answer s l reply)
+answer_fits n i s l None link fit = fit
+answer_fits n i s l (Some reply) link fit =
+    letters_more n i s (answer_to l reply ∷ []) (link_back l.from l.to link, tt) fit
 
 -- the metadata node takes a letter
-meta_fits : (n i : ℕ) (s : State) (l : Letter) (r : Option MetaRequest) → StateFits n i s → OutcomeFits n i (meta_takes s l r)
-meta_fits n i s l None fit = quietly_fits n i s fit
-meta_fits n i s l (Some r) fit =
+meta_fits : (n i : ℕ) (s : State) (l : Letter) (r : Option MetaRequest) → LetterFits l → StateFits n i s → OutcomeFits n i (meta_takes s l r)
+meta_fits n i s l None link fit = quietly_fits n i s fit
+meta_fits n i s l (Some r) link fit =
     let now = admits_fit n i s r (admit_in s r) fit in
     record {
-      state = answer_fits n i (admits s r (admit_in s r)).state l (reply_msg r (reply_of (meta_in s) r.session r.number r.op)) now.state;
+      state = answer_fits n i (admits s r (admit_in s r)).state l (reply_msg r (reply_of (meta_in s) r.session r.number r.op)) link now.state;
       events = now.events;
     }
 
 -- ---- letters
 
+-- a storage node after a message of a client
+after_fits : (b : ℕ) (k : Bookie) (c session : ℕ) (row : Taken) → IsBookie b → IsClient c → QueueFits b k → QueueFits b (after k c session row)
+after_fits b k c session (Queues reply item) here who fit = all-last (WaitingFits b) k.queue _ fit (here, who)
+after_fits b k c session (Answers reply) here who fit = fit
+after_fits b k c session Looks here who fit = fit
+
+-- a storage node takes a message
+row_fits : (n i : ℕ) (s : State) (l : Letter) (b c : ℕ) (row : Taken) → LetterFits l → IsClient c × IsBookie b → StateFits n i s
+    → StateFits n i (takes_row s l b c row)
+row_fits n i s l b c row link ends fit =
+    let k : Bookie = (s.nodes b).bookie in
+    let own = fit.nodes b in
+    answer_fits n i (with_bookie s b (after k c l.session row)) l (answer_now k l.msg row) link
+    (node_fits n i s b (record (s.nodes b) { bookie = after k c l.session row })
+    (record { bookie = after_fits b k c l.session row ends.1 ends.0 own.bookie; other = own.other }) fit)
+
 -- a letter is taken
-taken_fits : (n i : ℕ) (s : State) (l : Letter) (to from : Address) → n ≤ most_lines → suc i ≤ most_u64 → StateFits n i s
+taken_fits : (n i : ℕ) (s : State) (l : Letter) (to from : Address) → n ≤ most_lines → suc i ≤ most_u64 → LetterFits l → IsLink from to → StateFits n i s
     → OutcomeFits n (suc i) (takes_letter s l to from)
-taken_fits n i s l (AtBookie b) (Client c) few small fit =
-    quietly_fits n (suc i) (bookie_takes s l b c)
-    (answer_fits n (suc i) _ l (answer_now (s.nodes b).bookie l.msg (taken (s.nodes b).bookie l.msg)) (unheard_fits n i s fit))
-taken_fits n i s l (AtBookie b) (AtBookie d) few small fit = quietly_fits n (suc i) s (unheard_fits n i s fit)
-taken_fits n i s l (AtBookie b) AtMeta few small fit = quietly_fits n (suc i) s (unheard_fits n i s fit)
-taken_fits n i s l AtMeta from few small fit = meta_fits n (suc i) s l (request_in l.msg) (unheard_fits n i s fit)
-taken_fits n i s l (Client c) from few small fit = letter_fits n i s c s.conf (s.clients c) l few small (fit.joined c) fit
+taken_fits n i s l (AtBookie b) (Client c) few small link ends fit =
+    quietly_fits n (suc i) (bookie_takes s l b c) (row_fits n (suc i) s l b c (taken (s.nodes b).bookie l.msg) link ends (unheard_fits n i s fit))
+taken_fits n i s l (AtBookie b) (AtBookie d) few small link ends fit = quietly_fits n (suc i) s (unheard_fits n i s fit)
+taken_fits n i s l (AtBookie b) AtMeta few small link ends fit = quietly_fits n (suc i) s (unheard_fits n i s fit)
+taken_fits n i s l AtMeta from few small link ends fit = meta_fits n (suc i) s l (request_in l.msg) link (unheard_fits n i s fit)
+taken_fits n i s l (Client c) from few small link ends fit =
+    letter_fits n i s c s.conf (s.clients c) l few small fit.conf (fit.joined c) fit
 
 -- a letter is delivered
-deliver_fits : (n i : ℕ) (s : State) (place : ℕ) (l : Option Letter) → n ≤ most_lines → suc i ≤ most_u64 → StateFits n i s
+deliver_fits : (n i : ℕ) (s : State) (place : ℕ) (l : Option Letter) → n ≤ most_lines → suc i ≤ most_u64 → AllSome LetterFits l → StateFits n i s
     → OutcomeFits n (suc i) (delivers s place l)
-deliver_fits n i s place None few small fit = quietly_fits n (suc i) s (unheard_fits n i s fit)
-deliver_fits n i s place (Some l) few small fit =
+deliver_fits n i s place None few small link fit = quietly_fits n (suc i) s (unheard_fits n i s fit)
+deliver_fits n i s place (Some l) few small link fit =
     cond_both (OutcomeFits n (suc i)) (can_take s l l.to) (takes_letter (marks s place) l l.to l.from) (quietly s)
-    (taken_fits n i (marks s place) l l.to l.from few small fit) (quietly_fits n (suc i) s (unheard_fits n i s fit))
+    (taken_fits n i (marks s place) l l.to l.from few small link link fit) (quietly_fits n (suc i) s (unheard_fits n i s fit))
+
+-- ---- storage nodes
+
+-- a storage node that goes down
+killed_fits : (b : ℕ) (x : Node) → NodeFits b x → NodeFits b (killed_node x)
+killed_fits b x fit = cond_both (NodeFits b) (is_up x.mode) _ x (record { bookie = tt; other = fit.other }) fit
+
+-- a storage node that goes down inside a commit
+stopped_fits : (b : ℕ) (x : Node) (kept : Bool) → NodeFits b x → NodeFits b (stopped_node x kept)
+stopped_fits b x kept fit = cond_both (NodeFits b) (is_up x.mode) _ x (record { bookie = tt; other = tt }) fit
+
+-- a storage node that is loaded
+risen_fits : (b : ℕ) (x : Node) (mode : Mode) → NodeFits b x → NodeFits b (risen_node x mode)
+risen_fits b x Up fit = fit
+risen_fits b x Down fit = record { bookie = fit.bookie; other = tt }
+risen_fits b x Lost fit = fit
+
+-- a storage node whose disk holds the other list
+swapped_fits : (b : ℕ) (x : Node) (other : Option Bookie) → AllSome (QueueFits b) other → NodeFits b x → NodeFits b (swapped_node x other)
+swapped_fits b x None is fit = fit
+swapped_fits b x (Some k) is fit = record { bookie = is; other = fit.bookie }
+
+-- a storage node whose load fails
+loosened_fits : (b : ℕ) (x : Node) (mode : Mode) (other : Bool) → NodeFits b x → NodeFits b (loosened_node x mode other)
+loosened_fits b x Up other fit = fit
+loosened_fits b x Down true fit = swapped_fits b x x.other fit.other fit
+loosened_fits b x Down false fit = fit
+loosened_fits b x Lost other fit = fit
+
+-- the letters of replies that waited
+replies_fit : (b : ℕ) (k : Bookie) → QueueFits b k → AllByRecursion LetterFits (map (reply_letter b) (replies_of k))
+replies_fit b k fit =
+    all-map (λ (r : Reply). IsBookie b × IsClient r.client) LetterFits (reply_letter b) (λ r is. is) (replies_of k)
+    (all-map (WaitingFits b) (λ (r : Reply). IsBookie b × IsClient r.client) _ (λ w is. is) k.queue fit)
+
+-- a storage node commits its queue
+commits_fit : (n i : ℕ) (s : State) (b : ℕ) → StateFits n i s → StateFits n i (commits s b)
+unfolding committed
+commits_fit n i s b fit =
+    let own = fit.nodes b in
+    letters_more n i (with_bookie s b (committed (s.nodes b).bookie)) (map (reply_letter b) (replies_of (s.nodes b).bookie))
+    (replies_fit b (s.nodes b).bookie own.bookie)
+    (node_fits n i s b (record (s.nodes b) { bookie = committed (s.nodes b).bookie }) (record { bookie = tt; other = own.other }) fit)
 
 -- a storage node goes down on a letter
 faint_at_fits : (n i : ℕ) (s : State) (to : Address) → StateFits n i s → StateFits n i (faints_at s to)
-faint_at_fits n i s (AtBookie b) fit = fit
+faint_at_fits n i s (AtBookie b) fit = node_fits n i s b (killed_node (s.nodes b)) (killed_fits b (s.nodes b) (fit.nodes b)) fit
 faint_at_fits n i s (Client c) fit = fit
 faint_at_fits n i s AtMeta fit = fit
 
@@ -354,6 +491,9 @@ join_fits n i s c few number fit =
     cond_both (OutcomeFits (suc n) i) s.meta_up (joins_in s c k) (quietly s)
     (record {
       state = record {
+        conf = later.conf;
+        nodes = later.nodes;
+        letters = later.letters;
         joined = put_each s.clients c process (λ j p. AllSome (JoinedFits (suc n) i j) p)
             (record { number = number; view = tt; few = omega arith; calls = omega (arith, later.calls c) }) later.joined;
         calls = later.calls;
@@ -367,6 +507,9 @@ join_fits n i s c few number fit =
 -- a client's process ends
 crash_fits : (n i : ℕ) (s : State) (c : ℕ) → StateFits n i s → StateFits n i (with_client s c None)
 crash_fits n i s c fit = record {
+  conf = fit.conf;
+  nodes = fit.nodes;
+  letters = fit.letters;
   joined = put_each s.clients c None (λ j p. AllSome (JoinedFits n i j) p) tt fit.joined;
   calls = fit.calls;
   ledgers = fit.ledgers;
@@ -380,15 +523,26 @@ end_fits n i s k is fit =
     (record { state = item_fits n i s (Expire k) (expire_last s.meta.items k) fit; events = (is, tt) }) (quietly_fits n i s fit)
 
 -- the world is set up
-setup_fits : (n i : ℕ) (s : State) (conf : Conf) → StateFits n i s → StateFits n i (sets_up s conf)
-setup_fits n i s conf fit =
-    cond_both (StateFits n i) (is_none s.conf) _ s (item_fits n i s (Setup conf) (setup_last s.meta.items conf) fit) fit
+setup_fits : (n i : ℕ) (s : State) (conf : Conf) → ConfFits conf → StateFits n i s → StateFits n i (sets_up s conf)
+setup_fits n i s conf is fit =
+    let set = item_fits n i s (Setup conf) (setup_last s.meta.items conf) fit in
+    cond_both (StateFits n i) (is_none s.conf) _ s
+    (record {
+      conf = is;
+      nodes = set.nodes;
+      letters = set.letters;
+      joined = set.joined;
+      calls = set.calls;
+      ledgers = set.ledgers;
+      sessions = set.sessions;
+    })
+    fit
 
 -- ---- atomic steps
 
 -- what an atomic step takes from its line is such as the grammar takes
 abbrev pub IsAtom : Atom → Type 0
-IsAtom (SetUp conf) = Unit {0}
+IsAtom (SetUp conf) = ConfFits conf
 IsAtom (Join c) = IsClient c
 IsAtom (Crash c) = Unit {0}
 IsAtom (End k) = IsSession k
@@ -458,27 +612,36 @@ still_fits n i m j o h g fit each = record { state = state_more n m i j o.state 
 pub atom_fits : (n m i j : ℕ) (s : State) (a : Atom) → n + cost a ≤ m → i + takings a ≤ j → m ≤ most_lines → j ≤ most_u64 → IsAtom a → StateFits n i s
     → OutcomeFits m j (atom s a)
 unfolding atom
-atom_fits n m i j s (SetUp conf) h g few small is fit = still_fits n i m j _ (omega (arith, h)) (omega (arith, g)) (setup_fits n i s conf fit) tt
+atom_fits n m i j s (SetUp conf) h g few small is fit = still_fits n i m j _ (omega (arith, h)) (omega (arith, g)) (setup_fits n i s conf is fit) tt
 atom_fits n m i j s (Join c) h g few small is fit =
     outcome_more (suc n) m i j _ (omega (arith, h)) (omega (arith, g)) (join_fits n i s c (omega (arith, h, few)) is fit)
 atom_fits n m i j s (Crash c) h g few small is fit = still_fits n i m j _ (omega (arith, h)) (omega (arith, g)) (crash_fits n i s c fit) tt
 atom_fits n m i j s (End k) h g few small is fit = outcome_more n m i j _ (omega (arith, h)) (omega (arith, g)) (end_fits n i s k is fit)
 atom_fits n m i j s (Order c line x) h g few small is fit =
     outcome_more (suc n) m (suc i) j _ (omega (arith, h)) (omega (arith, g))
-    (line_fits n i s c s.conf (s.clients c) line x (omega (arith, h, few)) (omega (arith, g, small)) is (fit.joined c) fit)
+    (line_fits n i s c s.conf (s.clients c) line x (omega (arith, h, few)) (omega (arith, g, small)) is fit.conf (fit.joined c) fit)
 atom_fits n m i j s (Deliver place) h g few small is fit =
     outcome_more n m (suc i) j _ (omega (arith, h)) (omega (arith, g))
-    (deliver_fits n i s place (slice_get s.letters place) (omega (arith, h, few)) (omega (arith, g, small)) fit)
-atom_fits n m i j s (Commit b) h g few small is fit = still_fits n i m j _ (omega (arith, h)) (omega (arith, g)) fit tt
-atom_fits n m i j s (Stop b kept) h g few small is fit = still_fits n i m j _ (omega (arith, h)) (omega (arith, g)) fit tt
+    (deliver_fits n i s place (slice_get s.letters place) (omega (arith, h, few)) (omega (arith, g, small))
+    (all-get LetterFits s.letters place fit.letters) fit)
+atom_fits n m i j s (Commit b) h g few small is fit =
+    still_fits n i m j _ (omega (arith, h)) (omega (arith, g)) (commits_fit n i s b fit) tt
+atom_fits n m i j s (Stop b kept) h g few small is fit =
+    still_fits n i m j _ (omega (arith, h)) (omega (arith, g))
+    (node_fits n i s b (stopped_node (s.nodes b) kept) (stopped_fits b (s.nodes b) kept (fit.nodes b)) fit) tt
 atom_fits n m i j s (StopMeta place kept) h g few small is fit =
     outcome_more n m i j _ (omega (arith, h)) (omega (arith, g)) (stop_meta_fits n i s place kept (slice_get s.letters place) fit)
 atom_fits n m i j s (Faint place) h g few small is fit =
     still_fits n i m j _ (omega (arith, h)) (omega (arith, g)) (faint_fits n i s place (slice_get s.letters place) fit) tt
-atom_fits n m i j s (Kill b) h g few small is fit = still_fits n i m j _ (omega (arith, h)) (omega (arith, g)) fit tt
+atom_fits n m i j s (Kill b) h g few small is fit =
+    still_fits n i m j _ (omega (arith, h)) (omega (arith, g)) (node_fits n i s b (killed_node (s.nodes b)) (killed_fits b (s.nodes b) (fit.nodes b)) fit) tt
 atom_fits n m i j s KillMeta h g few small is fit = still_fits n i m j _ (omega (arith, h)) (omega (arith, g)) fit tt
-atom_fits n m i j s (Rise b) h g few small is fit = still_fits n i m j _ (omega (arith, h)) (omega (arith, g)) fit tt
+atom_fits n m i j s (Rise b) h g few small is fit =
+    still_fits n i m j _ (omega (arith, h)) (omega (arith, g)) (node_fits n i s b _ (risen_fits b (s.nodes b) (s.nodes b).mode (fit.nodes b)) fit) tt
 atom_fits n m i j s RiseMeta h g few small is fit = still_fits n i m j _ (omega (arith, h)) (omega (arith, g)) fit tt
-atom_fits n m i j s (Loosen b other) h g few small is fit = still_fits n i m j _ (omega (arith, h)) (omega (arith, g)) fit tt
-atom_fits n m i j s (Lose b) h g few small is fit = still_fits n i m j _ (omega (arith, h)) (omega (arith, g)) fit tt
+atom_fits n m i j s (Loosen b other) h g few small is fit =
+    still_fits n i m j _ (omega (arith, h)) (omega (arith, g)) (node_fits n i s b _ (loosened_fits b (s.nodes b) (s.nodes b).mode other (fit.nodes b)) fit) tt
+atom_fits n m i j s (Lose b) h g few small is fit =
+    still_fits n i m j _ (omega (arith, h)) (omega (arith, g))
+    (node_fits n i s b (lost_node (s.nodes b)) (record { bookie = tt; other = (fit.nodes b).other }) fit) tt
 atom_fits n m i j s (Shows e) h g few small is fit = still_fits n i m j _ (omega (arith, h)) (omega (arith, g)) fit (is, tt)

@@ -30,7 +30,7 @@ use Rattle.dl_rules_client.specs.Orders.{order_hears}
 use Rattle.dl_rules_client.specs.Clients.{reply_hears, meta_hears, tagged_hears, takes_msg, bookie_in, takes_order, if_free, takes_line}
 use Rattle.dl_rules_client.specs.Clients.{with_confirmation, client_takes, client_of, acts_of}
 use Rattle.dl_rules_client.proofs.RangeLists.{cond_both}
-use Rattle.dl_rules_client.specs.EventRanges.{FitsItsLine, IsInput, lines_in, ArgsFit}
+use Rattle.dl_rules_client.specs.EventRanges.{ClientActsFit, IsInput, lines_in, ArgsFit}
 use Rattle.dl_rules_client.proofs.OpenRanges.{recover_begun}
 use Rattle.dl_rules_client.proofs.RangeLists.{AllSome}
 use Rattle.dl_rules_client.proofs.ClientRanges.{now_later, some_later, OrderFits, NowFits, MoveFits, now_more, new_fits, no_acts_fit, stays_fits}
@@ -42,7 +42,7 @@ use Rattle.dl_rules_client.proofs.WriterRanges.{appends_one_fits, appends_many_f
 
 -- a client whose request has its reply
 settled_fits : (me : ClientArgs) (n k : ℕ) (now : ClientNow) → NowFits me n k now → NowFits me n k (record now { awaits = false })
-settled_fits me n k now fit = record { taken = fit.taken; order = fit.order; writer = fit.writer; reader = fit.reader }
+settled_fits me n k now fit = record { count = fit.count; taken = fit.taken; order = fit.order; writer = fit.writer; reader = fit.reader }
 
 -- the order under way hears something
 heard_fits : (me : ClientArgs) (n k : ℕ) (now : ClientNow) (o : Order) (h : Heard) → ArgsFit n (suc k) me → OrderFits me k o → NowFits me n k now
@@ -112,30 +112,30 @@ order_line_fits : (me : ClientArgs) (n k : ℕ) (now : ClientNow) (line : ℕ) (
     → MoveFits me (suc n) k 1 (takes_order me now line x)
 unfolding takes_order
 order_line_fits me n k now line (step.Create c s) args is fit =
-    begins_fits me (suc n) k 1 now line s (Makes []) (λ o. (make_first s).1) args.number is.1 tt (now_more me n k (suc n) now (omega arith) fit)
+    begins_fits me (suc n) k 1 now line s (Makes []) (λ o. (make_first s).1) args.number is.1 tt tt (now_more me n k (suc n) now (omega arith) fit)
 order_line_fits me n k now line (step.Remove c s) args is fit =
-    begins_fits me (suc n) k 1 now line s (Removes []) (λ o. (remove_first s).1) args.number is.1 tt (now_more me n k (suc n) now (omega arith) fit)
+    begins_fits me (suc n) k 1 now line s (Removes []) (λ o. (remove_first s).1) args.number is.1 tt tt (now_more me n k (suc n) now (omega arith) fit)
 order_line_fits me n k now line (step.Open c s) args is fit =
     begins_open_fits me (suc n) k 1 now line s now.writer args.number is.1 (now_more me n k (suc n) now (omega arith) fit)
 order_line_fits me n k now line (step.Recover c s) args is fit =
     begins_fits me (suc n) k 1 now line s (Recovers []) (λ o. (recover_first (recover_args me o)).1) args.number is.1
-    (recover_begun (record { tag = line; stream = s; conf = me.conf })) (now_more me n k (suc n) now (omega arith) fit)
+    (recover_begun (record { tag = line; stream = s; conf = me.conf })) tt (now_more me n k (suc n) now (omega arith) fit)
 order_line_fits me n k now line (step.Purge c s) args is fit =
-    begins_fits me (suc n) k 1 now line s (Purges []) (λ o. (purge_first s).1) args.number is.1 (omega arith) (now_more me n k (suc n) now (omega arith) fit)
+    begins_fits me (suc n) k 1 now line s (Purges []) (λ o. (purge_first s).1) args.number is.1 (omega arith) tt (now_more me n k (suc n) now (omega arith) fit)
 order_line_fits me n k now line (step.Commit c) args is fit = commit_fits me n k now line now.writer args fit.writer fit
 order_line_fits me n k now line (step.Close c) args is fit = confirm_fits me n k now line now.writer args fit.writer fit
 order_line_fits me n k now line (step.SeekOldest c s) args is fit =
-    begins_fits me (suc n) k 1 now line s (Seeks start.Oldest []) (λ o. (seek_first s).1) args.number is.1 tt (now_more me n k (suc n) now (omega arith) fit)
+    begins_fits me (suc n) k 1 now line s (Seeks start.Oldest []) (λ o. (seek_first s).1) args.number is.1 tt tt (now_more me n k (suc n) now (omega arith) fit)
 order_line_fits me n k now line (step.SeekPlace c s d) args is fit =
-    begins_fits me (suc n) k 1 now line s (Seeks (start.Place d) []) (λ o. (seek_first s).1) args.number is.1.0 tt
+    begins_fits me (suc n) k 1 now line s (Seeks (start.Place d) []) (λ o. (seek_first s).1) args.number is.1.0 tt tt
     (now_more me n k (suc n) now (omega arith) fit)
 order_line_fits me n k now line (step.SeekTxid c s txid) args is fit =
-    begins_fits me (suc n) k 1 now line s (Seeks (start.Tx txid) []) (λ o. (seek_first s).1) args.number is.1.0 is.1.1
+    begins_fits me (suc n) k 1 now line s (Seeks (start.Tx txid) []) (λ o. (seek_first s).1) args.number is.1.0 is.1.1 tt
     (now_more me n k (suc n) now (omega arith) fit)
 order_line_fits me n k now line (step.Read c count) args is fit =
     begins_read_fits me (suc n) k 1 now line count now.reader args.number fit.reader (now_more me n k (suc n) now (omega arith) fit)
 order_line_fits me n k now line (step.Truncate c s d) args is fit =
-    begins_fits me (suc n) k 1 now line s (Truncates d []) (λ o. (truncate_first (truncate_args o d)).1) args.number is.1.0 (any_place d is.1.1)
+    begins_fits me (suc n) k 1 now line s (Truncates d []) (λ o. (truncate_first (truncate_args o d)).1) args.number is.1.0 (any_place d is.1.1) tt
     (now_more me n k (suc n) now (omega arith) fit)
 order_line_fits me n k now line x args is fit = stays_fits me (suc n) k 1 now (now_more me n k (suc n) now (omega arith) fit)
 
@@ -161,7 +161,7 @@ line_fits me n k now line x args is fit = free_fits me n k now now.order line x 
 confirmed_fits : (me : ClientArgs) (n k more : ℕ) (move : ClientMove) → MoveFits me n k more move → MoveFits me n k more (with_confirmation move)
 confirmed_fits me n k more move fit = record {
   now = fit.now;
-  acts = record { events = fit.acts.events; sent = fit.acts.sent; taken = fit.acts.taken };
+  acts = record { events = fit.acts.events; sent = fit.acts.sent; taken = fit.acts.taken; letters = fit.acts.letters };
 }
 
 -- a client that takes a line
@@ -180,13 +180,13 @@ taken_letter_fits me n k now l args fit =
 
 -- a client with fewer lines and letters
 pub fewer : (me : ClientArgs) (n m i j : ℕ) → n ≤ m → i ≤ j → ArgsFit m j me → ArgsFit n i me
-fewer me n m i j h g args = record { number = args.number; calls = omega (arith, h, args.calls); counted = omega (arith, g, args.counted) }
+fewer me n m i j h g args = record { number = args.number; count = args.count; calls = omega (arith, h, args.calls); counted = omega (arith, g, args.counted) }
 
 -- a client by all that it took
 pub client_fits : (me : ClientArgs) (view : List Input) → ArgsFit (lines_in view) (length view) me → AllByRecursion IsInput view
     → NowFits me (lines_in view) (length view) (client_of me view)
 unfolding client_of
-client_fits me [] args each = new_fits me 0 0
+client_fits me [] args each = new_fits me 0 0 args.count
 client_fits me (Line line x ∷ view) args each =
     let n : ℕ = lines_in view in
     let k : ℕ = length view in
@@ -197,16 +197,20 @@ client_fits me (Came l ∷ view) args each =
     let k : ℕ = length view in
     (taken_letter_fits me n k (client_of me view) l args (client_fits me view (fewer me n n k (suc k) (omega arith) (omega arith) args) each.1)).now
 
+-- what a client does as it takes something more
+done_fits : (me : ClientArgs) (n k more : ℕ) (move : ClientMove) → MoveFits me n k more move → ClientActsFit move.acts
+done_fits me n k more move fit = record { events = fit.acts.events; letters = fit.acts.letters }
+
 -- a client that takes something more
 pub input_fits : (me : ClientArgs) (view : List Input) (x : Input) → ArgsFit (lines_in (x ∷ view)) (length (x ∷ view)) me
-    → AllByRecursion IsInput (x ∷ view) → AllByRecursion FitsItsLine (acts_of me view x).events
+    → AllByRecursion IsInput (x ∷ view) → ClientActsFit (acts_of me view x)
 input_fits me view (Line line x) args each =
     let n : ℕ = lines_in view in
     let k : ℕ = length view in
-    (taken_line_fits me n k (client_of me view) line x args each.0
-    (client_fits me view (fewer me n (suc n) k (suc k) (omega arith) (omega arith) args) each.1)).acts.events
+    done_fits me (suc n) (suc k) 1 _ (taken_line_fits me n k (client_of me view) line x args each.0
+    (client_fits me view (fewer me n (suc n) k (suc k) (omega arith) (omega arith) args) each.1))
 input_fits me view (Came l) args each =
     let n : ℕ = lines_in view in
     let k : ℕ = length view in
-    (taken_letter_fits me n k (client_of me view) l args
-    (client_fits me view (fewer me n n k (suc k) (omega arith) (omega arith) args) each.1)).acts.events
+    done_fits me n (suc k) 0 _ (taken_letter_fits me n k (client_of me view) l args
+    (client_fits me view (fewer me n n k (suc k) (omega arith) (omega arith) args) each.1))

@@ -4,6 +4,8 @@ pub mod NodeRanges
 pub mod LogRanges
 pub mod RecoveryRanges
 pub mod OpenRanges
+pub mod TellRecoveries
+pub mod TellRanges
 pub mod PurgeRanges
 pub mod ClientRanges
 pub mod OrderRanges

@@ -11,11 +11,12 @@ use Rattle.dl_text.specs.Hex.{AllBytes}
 use Rattle.dl_text.specs.Numbers.{most_u32, most_u64}
 use Rattle.dl_text.specs.PlaceFields.{IsPlaceFrom}
 use Rattle.dl_msg.specs.declared.msg.Msg.{Msg}
-use Rattle.dl_schedule.specs.StepLines.{IsClient, IsTxid}
+use Rattle.dl_schedule.specs.StepLines.{IsClient, IsBookie, IsTxid}
 use Rattle.dl_transcript.specs.Ranges.{IsU32, IsU64}
 use Rattle.dl_rules_stream.specs.LogWriters.{Pending, LogCall, Appends, AppendsSet, Flushes, Commits, Closes, HearsFrom, LogMode, Open, Committing}
 use Rattle.dl_rules_stream.specs.LogWriters.{Committed, Closing, Closable}
-use Rattle.dl_rules_stream.specs.LogWriters.{LogNow, LogMove, stays, rows_at, rows_due, sends_parts, flushes, sends_control, mode_goes_on, goes_on}
+use Rattle.dl_rules_stream.specs.LogWriters.{control_bytes, LogNow, LogMove, stays, rows_at, rows_due, sends_parts, flushes, sends_control, mode_goes_on}
+use Rattle.dl_rules_stream.specs.LogWriters.{goes_on}
 use Rattle.dl_rules_stream.specs.LogWriters.{then_goes_on}
 use Rattle.dl_rules_stream.specs.LogWriters.{makes_room, has_parts, fits, all_confirmed, confirmed_count, fenced_at, sent_count, in_mode, past_commit}
 use Rattle.dl_rules_stream.specs.LogWriters.{pending_from}
@@ -23,9 +24,13 @@ use Rattle.dl_rules_stream.specs.LogWriters.{takes_behind, unless, take_fault, s
 use Rattle.dl_rules_stream.specs.LogWriters.{heard_by, log_hears, or_same, after_log_call}
 use Rattle.dl_rules_stream.specs.LogWriters.{LogArgs, log_started, LogState, IsOpen, IsCommitting, HasCommitted, IsClosing, MayClose, IsFenced, state_by}
 use Rattle.dl_rules_stream.specs.LogWriters.{log_state, SentEntry, last_behind, last_sent_entry}
+use Rattle.dl_quorum.specs.Pieces.{members}
+use Rattle.dl_record.specs.Grammar.{entry_bytes}
+use Rattle.dl_rules_ledger.specs.Writers.{add_letters}
 use Rattle.dl_rules_client.specs.EventRanges.{set_most}
+use Rattle.dl_rules_client.proofs.TellRanges.{ToldFits}
 use Rattle.dl_rules_client.proofs.RangeLists.{cond_both}
-use Rattle.dl_rules_client.proofs.RangeLists.{AllSome, all-append, all-last, all-take, all-drop, all-flat}
+use Rattle.dl_rules_client.proofs.RangeLists.{AllSome, all-map, all-append, all-last, all-take, all-drop, all-flat}
 
 -- A record that was not sent yet.
 pub record IsPending (p : Pending) : Type 0 where
@@ -69,11 +74,13 @@ pub record LogFits (records entries : ℕ) (w : LogNow) : Type 0 where
   pub sent : sent_count w + due w.mode ≤ entries
   pub kept : length w.entries + due w.mode ≤ entries
   pub control : ControlUpTo entries w.mode
+  pub members : (entry : ℕ) → AllByRecursion IsBookie (members w.ledger.pieces entry)
 
 -- a move of one
 pub record LogMoveFits (records entries : ℕ) (m : LogMove) : Type 0 where
   pub now : LogFits records entries m.now
   pub rows : AllByRecursion IsRow m.rows
+  pub letters : AllByRecursion ToldFits m.letters
 
 -- a move, where a call is not refused
 abbrev pub CallFits : (records entries : ℕ) → Result LogMove Refusal → Type 0
@@ -99,15 +106,16 @@ log_more r q e f w h k fit = record {
   sent = omega (arith, k, fit.sent);
   kept = omega (arith, k, fit.kept);
   control = control_more e f w.mode k fit.control;
+  members = fit.members;
 }
 
 -- a move with greater bounds
 move_more : (r q e f : ℕ) (m : LogMove) → r ≤ q → e ≤ f → LogMoveFits r e m → LogMoveFits q f m
-move_more r q e f m h k fit = record { now = log_more r q e f m.now h k fit.now; rows = fit.rows }
+move_more r q e f m h k fit = record { now = log_more r q e f m.now h k fit.now; rows = fit.rows; letters = fit.letters }
 
 -- a writer that stays as it is
 stays_fit : (r e : ℕ) (w : LogNow) → LogFits r e w → LogMoveFits r e (stays w)
-stays_fit r e w fit = record { now = fit; rows = tt }
+stays_fit r e w fit = record { now = fit; rows = tt; letters = tt }
 
 -- records at their places
 rows_at_fit : (segment entry slot : ℕ) (ps : List Pending) → IsU64 segment → IsU64 entry → slot + length ps ≤ most_u32
@@ -126,6 +134,12 @@ rows_at_fit segment entry slot (p ∷ ps) s e few each =
       rows_at_fit segment entry (suc slot) ps s e more each.1,
     )
 
+-- the messages by which an entry is sent
+add_letters_fit : {r e : ℕ} (w : LogNow) (bytes : List ℕ) → LogFits r e w → AllByRecursion ToldFits (add_letters w.ledger bytes)
+unfolding add_letters
+add_letters_fit w bytes fit =
+    all-map IsBookie ToldFits _ (λ b is. is) (members w.ledger.pieces (sent_count w)) (fit.members (sent_count w))
+
 -- the entry under way is sent
 parts_fit : (r e : ℕ) (w : LogNow) → r ≤ most_u32 → e ≤ most_u64 → LogFits r e w → LogMoveFits r (suc e) (sends_parts w)
 unfolding sends_parts
@@ -139,8 +153,10 @@ parts_fit r e w h k fit = record {
     sent = omega (arith, fit.sent);
     kept = omega (arith, fit.kept, length-append w.entries (rows_due w ∷ []));
     control = control_more e (suc e) w.mode (omega arith) fit.control;
+    members = fit.members;
   };
   rows = tt;
+  letters = add_letters_fit w (entry_bytes w.parts) fit;
 }
 
 -- the entry under way is sent, where there is one
@@ -165,6 +181,7 @@ mode_fit r e w mode one control fit = record {
   sent = omega (arith, fit.sent, one);
   kept = omega (arith, fit.kept, one);
   control = control;
+  members = fit.members;
 }
 
 -- the control entry is sent that was due
@@ -181,8 +198,10 @@ control_fit r e w is fit =
         sent = omega (arith, fit.sent, one);
         kept = omega (arith, fit.kept, one, length-append w.entries ([] ∷ []));
         control = omega (arith, fit.sent, one);
+        members = fit.members;
       };
       rows = tt;
+      letters = add_letters_fit w (control_bytes w) fit;
     }
 
 -- a commit that has its control entry confirmed
@@ -195,6 +214,7 @@ committed_fit r e n w is fit = record {
   sent = omega (arith, fit.sent);
   kept = omega (arith, fit.kept);
   control = subst (ControlUpTo e) is fit.control;
+  members = fit.members;
 }
 
 -- a close that may be made
@@ -207,6 +227,7 @@ closable_fit r e w fit = record {
   sent = omega (arith, fit.sent);
   kept = omega (arith, fit.kept);
   control = tt;
+  members = fit.members;
 }
 
 -- the next step of a mode
@@ -233,7 +254,11 @@ on_fit r e w fit =
 then_fit : (r e : ℕ) (m : LogMove) → LogMoveFits r e m → LogMoveFits r e (then_goes_on m)
 then_fit r e m fit =
     let next = on_fit r e m.now fit.now in
-    record { now = next.now; rows = all-append IsRow m.rows (goes_on m.now).rows fit.rows next.rows }
+    record {
+      now = next.now;
+      rows = all-append IsRow m.rows (goes_on m.now).rows fit.rows next.rows;
+      letters = all-append ToldFits m.letters (goes_on m.now).letters fit.letters next.letters;
+    }
 
 -- a call that may be refused
 unless_fit : (r e : ℕ) (why : Option Refusal) (m : LogMove) → LogMoveFits r e m → CallFits r e (unless why m)
@@ -286,8 +311,10 @@ behind_fit r e k m txid part ps few each fit = record {
     sent = omega (arith, fit.now.sent, past_due m.now.mode);
     kept = omega (arith, fit.now.kept, past_due m.now.mode);
     control = past_control e m.now.mode fit.now.control;
+    members = fit.now.members;
   };
   rows = fit.rows;
+  letters = fit.letters;
 }
 
 -- a writer that has heard something
@@ -305,7 +332,9 @@ heard_fit r e w b m fit =
         sent = omega (arith, fit.sent);
         kept = omega (arith, fit.kept);
         control = fit.control;
+        members = fit.members;
       };
+      letters = tt;
       rows = all-flat (AllByRecursion IsRow) IsRow (λ rows. rows) (λ rows each. each) (take (high - low) (drop low w.entries))
           (all-take (AllByRecursion IsRow) (high - low) (drop low w.entries) (all-drop (AllByRecursion IsRow) low w.entries fit.rows));
     }
@@ -375,6 +404,7 @@ kept_fit r e w fit = record {
   sent = omega (arith, fit.sent, past_due w.mode);
   kept = omega (arith, fit.kept, past_due w.mode);
   control = past_control e w.mode fit.control;
+  members = fit.members;
 }
 
 -- a flush
@@ -433,8 +463,8 @@ unfolding after_log_call
 told_fit r e w b m fit = (hears_fit r e w b m fit).now
 
 -- a writer that was given no call yet
-pub started_fit : (r e : ℕ) (x : LogArgs) → IsU64 x.segment → LogFits r e (log_started x)
-started_fit r e x is = record {
+pub started_fit : (r e : ℕ) (x : LogArgs) → IsU64 x.segment → ((entry : ℕ) → AllByRecursion IsBookie (members x.pieces entry)) → LogFits r e (log_started x)
+started_fit r e x is members = record {
   segment = is;
   pending = tt;
   few = omega arith;
@@ -442,6 +472,7 @@ started_fit r e x is = record {
   sent = omega arith;
   kept = omega arith;
   control = tt;
+  members = members;
 }
 
 -- the number of a control entry that a writer tells

@@ -10,6 +10,7 @@ use Rattle.dl_types.specs.declared.refusal.Refusal.TheVariants as refused
 use Rattle.dl_types.specs.Places.{is_at_most, is_before}
 use Rattle.dl_types.specs.declared.why.Why.TheVariants.{NoNode}
 use Rattle.dl_text.specs.PlaceFields.{IsPlaceFrom}
+use Rattle.dl_schedule.specs.StepLines.{IsCount}
 use Rattle.dl_msg.specs.declared.heard.Heard.{Heard}
 use Rattle.dl_msg.specs.declared.heard.Heard.TheVariants.{Reply, From}
 use Rattle.dl_formats.specs.Keys.{MaxSeq, path_of}
@@ -39,7 +40,7 @@ use Rattle.dl_rules_client.proofs.RecoveryRanges.{LookedFits, look_fits, Segment
 abbrev pub OpenStageFits : OpenStage → Type 0
 OpenStageFits (Locking stage) = Unit {0}
 OpenStageFits (LookingFor member stage) = Unit {0}
-OpenStageFits (RecoveringSegment member args stage) = (args.segment ≤ ten_nines) × SegmentStageFits stage
+OpenStageFits (RecoveringSegment member args stage) = (args.segment ≤ ten_nines) × SegmentStageFits stage × IsCount args.conf.b
 OpenStageFits (Allocating member looked stage) = looked.maxseq.segment + 1 ≤ ten_nines
 OpenStageFits (Starting b) = b.segment ≤ ten_nines
 OpenStageFits OpenDone = Unit {0}
@@ -58,11 +59,12 @@ looks_fit x member =
     within_fits OpenStageFits OpenedFits (LookingFor member) OpenDone (λ looked. (OpenDone, Wait)) (look_first x.stream) (λ s. tt) tt (λ a. (tt, tt))
 
 -- the recovery of a segment
-goes_fits : (x : OpenArgs) (member : List ℕ) (args : SegmentArgs) (move : SegmentStage × Next Recovered) → args.segment ≤ ten_nines → SegmentMove move
+goes_fits : (x : OpenArgs) (member : List ℕ) (args : SegmentArgs) (move : SegmentStage × Next Recovered) → args.segment ≤ ten_nines
+    → IsCount args.conf.b → SegmentMove move
     → OpenFits (segment_goes x member args move)
-goes_fits x member args move h is =
+goes_fits x member args move h b is =
     within_such SegmentStageFits RecoveredFits OpenStageFits OpenedFits (RecoveringSegment member args) OpenDone (λ r. looks x member) move
-    (λ s fit. (h, fit)) tt (λ r u. looks_fit x member) is
+    (λ s fit. (h, fit, b)) tt (λ r u. looks_fit x member) is
 
 -- an allocation
 allocation_fits : (x : OpenArgs) (member : List ℕ) (looked : Looked) (version : ℕ) (move : AllocationStage × Next ℕ)
@@ -81,12 +83,12 @@ allocates_fit x member looked = go (nat_lt ten_nines (looked.maxseq.segment + 1)
     go false e = allocation_fits x member looked 0 (allocation_first (allocation_args x member looked)) (ltb-false ten_nines (looked.maxseq.segment + 1) e)
 
 -- behind a look
-after_look_fits : (x : OpenArgs) (member : List ℕ) (looked : Looked) (last : Option SegmentName) → AllSome NameFits last
+after_look_fits : (x : OpenArgs) (member : List ℕ) (looked : Looked) (last : Option SegmentName) → IsCount x.conf.b → AllSome NameFits last
     → OpenFits (after_look x member looked last)
-after_look_fits x member looked (Some (Progress k)) is =
-    goes_fits x member (segment_args x member looked k) (segment_first (segment_args x member looked k)) is (tt, tt)
-after_look_fits x member looked (Some (Completed k)) is = allocates_fit x member looked
-after_look_fits x member looked None is = allocates_fit x member looked
+after_look_fits x member looked (Some (Progress k)) b is =
+    goes_fits x member (segment_args x member looked k) (segment_first (segment_args x member looked k)) is b (tt, tt)
+after_look_fits x member looked (Some (Completed k)) b is = allocates_fit x member looked
+after_look_fits x member looked None b is = allocates_fit x member looked
 
 -- the start of the segment
 start_fits : (b : Beginning) (a : MetaAnswer) → b.segment ≤ ten_nines → OpenFits (start_answers b a)
@@ -95,21 +97,21 @@ start_fits b (answer.Many answers) h = (tt, h)
 start_fits b (answer.One x) h = (h, tt)
 
 -- what an open does at what it hears
-pub open_fits : (x : OpenArgs) (stage : OpenStage) (h : Heard) → OpenStageFits stage → OpenFits (open_hears x stage h)
+pub open_fits : (x : OpenArgs) (stage : OpenStage) (h : Heard) → IsCount x.conf.b → OpenStageFits stage → OpenFits (open_hears x stage h)
 unfolding open_hears
-open_fits x (Locking stage) h is =
+open_fits x (Locking stage) h b is =
     within_fits OpenStageFits OpenedFits Locking OpenDone (looks x) (lock_hears x.stream stage h) (λ s. tt) tt (λ member. looks_fit x member)
-open_fits x (LookingFor member stage) h is =
+open_fits x (LookingFor member stage) h b is =
     within_such Any LookedFits OpenStageFits OpenedFits (LookingFor member) OpenDone (λ looked. after_look x member looked (last_segment looked.segments))
     (look_hears x.stream stage h) (λ s u. tt) tt
-    (λ looked fit. after_look_fits x member looked (last_segment looked.segments) (last_segment_fits looked.segments fit)) (look_fits x.stream stage h)
-open_fits x (RecoveringSegment member args stage) h is =
-    goes_fits x member args (segment_hears args stage h) is.0 (segment_fits args stage h is.1)
-open_fits x (Allocating member looked stage) h is =
+    (λ looked fit. after_look_fits x member looked (last_segment looked.segments) b (last_segment_fits looked.segments fit)) (look_fits x.stream stage h)
+open_fits x (RecoveringSegment member args stage) h b is =
+    goes_fits x member args (segment_hears args stage h) is.0 is.2 (segment_fits args stage h is.1)
+open_fits x (Allocating member looked stage) h b is =
     allocation_fits x member looked (alloc_version_in h) (allocation_hears (allocation_args x member looked) stage h) is
-open_fits x (Starting b) (Reply a) is = start_fits b a is
-open_fits x (Starting b) (From bookie m) is = (is, tt)
-open_fits x OpenDone h is = (tt, tt)
+open_fits x (Starting s) (Reply a) b is = start_fits s a is
+open_fits x (Starting s) (From bookie m) b is = (is, tt)
+open_fits x OpenDone h b is = (tt, tt)
 
 -- the stage with which an open begins
 pub open_begun : (x : OpenArgs) → OpenStageFits (open_stage x [])
@@ -117,9 +119,10 @@ unfolding stage_after
 open_begun x = (within_fits OpenStageFits OpenedFits Locking OpenDone (looks x) (lock_first x.stream) (λ s. tt) tt (λ member. looks_fit x member)).0
 
 -- the stage behind one thing more that it hears
-pub open_later : (x : OpenArgs) (h : Heard) (heard : List Heard) → OpenStageFits (open_stage x heard) → OpenStageFits (open_stage x (h ∷ heard))
+pub open_later : (x : OpenArgs) (h : Heard) (heard : List Heard) → IsCount x.conf.b → OpenStageFits (open_stage x heard)
+    → OpenStageFits (open_stage x (h ∷ heard))
 unfolding stage_after
-open_later x h heard is = (open_fits x (open_stage x heard) h is).0
+open_later x h heard b is = (open_fits x (open_stage x heard) h b is).0
 
 -- the place at which a segment ends that what an open hears completes
 pub recovers_fit : (stage : OpenStage) (h : Heard) → OpenStageFits stage → AllSome (IsPlaceFrom 0) (open_recovers stage h)
@@ -131,7 +134,7 @@ recovers_fit stage h is = tt
 -- the segment that is recovered has at most ten digits
 abbrev pub RecoverStageFits : recover.RecoverStage → Type 0
 RecoverStageFits (recover.LookingFor stage) = Unit {0}
-RecoverStageFits (recover.RecoveringSegment args stage) = (args.segment ≤ ten_nines) × SegmentStageFits stage
+RecoverStageFits (recover.RecoveringSegment args stage) = (args.segment ≤ ten_nines) × SegmentStageFits stage × IsCount args.conf.b
 RecoverStageFits recover.RecoverDone = Unit {0}
 
 -- what a recovery finds ends at a place
@@ -156,30 +159,32 @@ after_recovered_fits x args (ClosedAt count) h is = (tt, end_place args.segment 
 after_recovered_fits x args Again h is = recover_looks_fit x
 
 -- the recovery of a segment
-recover_goes_fits : (x : recover.RecoverArgs) (args : SegmentArgs) (move : SegmentStage × Next Recovered) → args.segment ≤ ten_nines → SegmentMove move
+recover_goes_fits : (x : recover.RecoverArgs) (args : SegmentArgs) (move : SegmentStage × Next Recovered) → args.segment ≤ ten_nines
+    → IsCount args.conf.b → SegmentMove move
     → RecoverFits (recover.segment_goes x args move)
-recover_goes_fits x args move h is =
+recover_goes_fits x args move h b is =
     within_such SegmentStageFits RecoveredFits RecoverStageFits FoundFits (recover.RecoveringSegment args) recover.RecoverDone
     (recover.after_segment x args) move
-    (λ s fit. (h, fit)) tt (λ r fit. after_recovered_fits x args r h fit) is
+    (λ s fit. (h, fit, b)) tt (λ r fit. after_recovered_fits x args r h fit) is
 
 -- behind a look
-recover_after_fits : (x : recover.RecoverArgs) (looked : Looked) (last : Option SegmentName) → AllSome NameFits last
+recover_after_fits : (x : recover.RecoverArgs) (looked : Looked) (last : Option SegmentName) → IsCount x.conf.b → AllSome NameFits last
     → RecoverFits (recover.after_look x looked last)
-recover_after_fits x looked (Some (Progress k)) is =
-    recover_goes_fits x (recover.segment_args x looked k) (segment_first (recover.segment_args x looked k)) is (tt, tt)
-recover_after_fits x looked (Some (Completed k)) is = (tt, tt)
-recover_after_fits x looked None is = (tt, tt)
+recover_after_fits x looked (Some (Progress k)) b is =
+    recover_goes_fits x (recover.segment_args x looked k) (segment_first (recover.segment_args x looked k)) is b (tt, tt)
+recover_after_fits x looked (Some (Completed k)) b is = (tt, tt)
+recover_after_fits x looked None b is = (tt, tt)
 
 -- what a recovery does at what it hears
-pub recover_fits : (x : recover.RecoverArgs) (stage : recover.RecoverStage) (h : Heard) → RecoverStageFits stage → RecoverFits (recover.recover_hears x stage h)
+pub recover_fits : (x : recover.RecoverArgs) (stage : recover.RecoverStage) (h : Heard) → IsCount x.conf.b → RecoverStageFits stage
+    → RecoverFits (recover.recover_hears x stage h)
 unfolding recover.recover_hears
-recover_fits x (recover.LookingFor stage) h is =
+recover_fits x (recover.LookingFor stage) h b is =
     within_such Any LookedFits RecoverStageFits FoundFits recover.LookingFor recover.RecoverDone
     (λ looked. recover.after_look x looked (last_segment looked.segments)) (look_hears x.stream stage h) (λ s u. tt) tt
-    (λ looked fit. recover_after_fits x looked (last_segment looked.segments) (last_segment_fits looked.segments fit)) (look_fits x.stream stage h)
-recover_fits x (recover.RecoveringSegment args stage) h is = recover_goes_fits x args (segment_hears args stage h) is.0 (segment_fits args stage h is.1)
-recover_fits x recover.RecoverDone h is = (tt, tt)
+    (λ looked fit. recover_after_fits x looked (last_segment looked.segments) b (last_segment_fits looked.segments fit)) (look_fits x.stream stage h)
+recover_fits x (recover.RecoveringSegment args stage) h b is = recover_goes_fits x args (segment_hears args stage h) is.0 is.2 (segment_fits args stage h is.1)
+recover_fits x recover.RecoverDone h b is = (tt, tt)
 
 -- the stage with which a recovery begins
 pub recover_begun : (x : recover.RecoverArgs) → RecoverStageFits (recover.recover_stage x [])
@@ -187,10 +192,10 @@ unfolding stage_after
 recover_begun x = (recover_looks_fit x).0
 
 -- the stage behind one thing more that it hears
-pub recover_later : (x : recover.RecoverArgs) (h : Heard) (heard : List Heard) → RecoverStageFits (recover.recover_stage x heard)
+pub recover_later : (x : recover.RecoverArgs) (h : Heard) (heard : List Heard) → IsCount x.conf.b → RecoverStageFits (recover.recover_stage x heard)
     → RecoverStageFits (recover.recover_stage x (h ∷ heard))
 unfolding stage_after
-recover_later x h heard is = (recover_fits x (recover.recover_stage x heard) h is).0
+recover_later x h heard b is = (recover_fits x (recover.recover_stage x heard) h b is).0
 
 -- ---- truncations
 

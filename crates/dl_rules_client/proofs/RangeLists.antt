@@ -1,5 +1,6 @@
 -- What holds of each item of a list, or of a value where there is one.
 use Rattle.std.proofs.Common.{ℕ, zero, suc, Bool, true, false, cond, List, [], ◌∷◌, ◌++◌, take, drop, map, Option, Some, None, Result, Ok, Err}
+use Rattle.std.specs.Prelude.{slice_get}
 use Rattle.std.specs.List.{AllByRecursion, flat_map}
 
 -- what holds of both sides of a test holds of it
@@ -53,3 +54,9 @@ pub all-flat : {A B : Type 0} (P : A → Type 0) (Q : B → Type 0) (f : A → L
     → AllByRecursion P xs → AllByRecursion Q (flat_map f xs)
 all-flat P Q f h [] a = tt
 all-flat P Q f h (x ∷ xs) a = all-append Q (f x) (flat_map f xs) (h x a.0) (all-flat P Q f h xs a.1)
+
+-- what holds of each item holds of the one at a place, where there is one
+pub all-get : {A : Type 0} (P : A → Type 0) (xs : List A) (k : ℕ) → AllByRecursion P xs → AllSome P (slice_get xs k)
+all-get P [] k a = tt
+all-get P (x ∷ xs) zero a = a.0
+all-get P (x ∷ xs) (suc k) a = all-get P xs k a.1

@@ -31,7 +31,7 @@ use Rattle.dl_rules_client.proofs.RangeLists.{AllSome, all-append, all-map}
 use Rattle.dl_rules_client.proofs.NextRanges.{any_next}
 use Rattle.dl_rules_client.proofs.LogRanges.{IsRow, LogFits, LogMoveFits, CallFits, EntryFits, IsTaken, IsCall, ToldUpTo, log_more, appends_fit}
 use Rattle.dl_rules_client.proofs.LogRanges.{sets_fit, flush_fit, commit_fit, close_fit, hears_fit, called_fit, told_fit, state_fit, last_entry_fit}
-use Rattle.dl_rules_client.proofs.ClientRanges.{DoingFits, OrderFits, WriterFits, NowFits, SentFits, ActsFit, MoveFits, now_more}
+use Rattle.dl_rules_client.proofs.ClientRanges.{each_letter_fits, DoingFits, OrderFits, WriterFits, NowFits, SentFits, ActsFit, MoveFits, now_more}
 use Rattle.dl_rules_client.proofs.ClientRanges.{stays_fits, refuses_fits, waits_fits, ends_fits, with_fits, goes_fits}
 
 -- ---- a writer behind a call
@@ -54,7 +54,7 @@ hears_fits n w b m fit = record { stream = fit.stream; segment = fit.segment; lo
 
 -- a client with this writer
 writer_fits : (me : ClientArgs) (n k : ℕ) (now : ClientNow) (w : WriterView) → WriterFits n w → NowFits me n k now → NowFits me n k (with_writer now w)
-writer_fits me n k now w is fit = record { taken = fit.taken; order = fit.order; writer = is; reader = fit.reader }
+writer_fits me n k now w is fit = record { count = fit.count; taken = fit.taken; order = fit.order; writer = is; reader = fit.reader }
 
 -- ---- what a call shows
 
@@ -85,6 +85,7 @@ move_acts_fit me n k more r e w m c small fit move =
           (all-map IsRow FitsItsLine _ (λ row is. (c, (is.call, is.place))) m.rows move.rows) (sent_fits me w sent c fit.segment entry);
       sent = entry_fits w sent fit.stream entry;
       taken = omega arith;
+      letters = each_letter_fits me m.letters c move.letters;
     }
 
 -- records that are taken
@@ -126,6 +127,7 @@ takes_fits me n k now w call txid payloads (Ok m) args is taken writer fit resul
     let acts = move_acts_fit me n k 1 (set_most * n + set_most) (suc (suc (2 * n))) w m args.number f writer result in
     record {
       now = record {
+        count = fit.count;
         taken = omega (arith, fit.taken, taken.few);
         order = next.order;
         writer = call_fits n w call h room is writer;
@@ -135,6 +137,7 @@ takes_fits me n k now w call txid payloads (Ok m) args is taken writer fit resul
         events = all-append FitsItsLine (move_acts me w m).events (took_events me w.stream txid (suc now.taken) payloads) acts.events
             (took_fit me w.stream txid (suc now.taken) payloads args.number writer.stream taken.id taken.calls taken.bytes);
         sent = acts.sent;
+        letters = acts.letters;
         taken = omega (arith, taken.few, took_length me w.stream txid (suc now.taken) payloads);
       };
     }
@@ -201,7 +204,7 @@ flushes_fits me n k now (Some w) args writer fit =
 close_goes_fits : (me : ClientArgs) (n k more : ℕ) (now : ClientNow) (o : Order) (acts : Acts) (args : CloseArgs)
     → IsClient me.number → OrderFits me k o → NowFits me n k now → ActsFit more acts → MoveFits me n k more (begins_close me now o acts args)
 close_goes_fits me n k more now o acts args c order fit acted =
-    goes_fits me n k more now (order_doing o (Closes args [])) acts Any (close_first args).1 _ c (record { stream = order.stream; doing = tt }) fit acted
+    goes_fits me n k more now (order_doing o (Closes args [])) acts Any (close_first args).1 _ c (record { stream = order.stream; doing = tt }) fit acted tt
     (any_next (close_first args).1) (λ u p. waits_fits me n k more now o acts order fit acted)
 
 -- a commit or a close goes on

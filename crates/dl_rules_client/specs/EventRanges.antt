@@ -3,14 +3,15 @@ use Rattle.std.specs.Prelude.{ℕ, suc, ◌+◌, ◌*◌, ◌≤◌, List, [], �
 use Rattle.std.specs.List.{AllByRecursion}
 use Rattle.dl_text.specs.NameFields.{IsName}
 use Rattle.dl_text.specs.Numbers.{most_u32, most_u64}
+use Rattle.dl_msg.specs.declared.letter.Letter.{Letter}
 use Rattle.dl_schedule.specs.declared.step.TheConstants.{MAX_SET}
-use Rattle.dl_schedule.specs.StepLines.{IsStep, IsClient}
+use Rattle.dl_schedule.specs.StepLines.{IsStep, IsClient, IsCount, IsLink}
 use Rattle.dl_transcript.specs.declared.event.Event.{Event}
 use Rattle.dl_transcript.specs.declared.event.Event.TheVariants.{Joined, Expired, Created, Removed, Released, Whole, Writer, Took, Sent, Grow, Ack, Committed}
 use Rattle.dl_transcript.specs.declared.event.Event.TheVariants.{Closed, Recovered, Point, Truncated, Purged, OpenedAt, OpenedFrom, Reading, End, Rows}
 use Rattle.dl_transcript.specs.declared.event.Event.TheVariants.{Refused, Mail, Nothing}
 use Rattle.dl_transcript.specs.Ranges.{IsEvent}
-use Rattle.dl_rules_client.specs.Acts.{Input, Line, Came, ClientArgs}
+use Rattle.dl_rules_client.specs.Acts.{Input, Line, Came, ClientArgs, Acts}
 use Rattle.dl_rules_client.specs.Clients.{acts_of}
 
 -- What is said of the values of an event: all that its line asks for; of an event that takes values out of letters or out of the
@@ -39,7 +40,7 @@ FitsItsLine (Reading c stream) = IsEvent (Reading c stream)
 FitsItsLine (End c stream) = IsEvent (End c stream)
 FitsItsLine (Rows c stream rows) = IsClient c × IsName stream
 FitsItsLine (Refused c why) = IsClient c
-FitsItsLine (Mail from to count) = Unit {0}
+FitsItsLine (Mail from to count) = IsLink from to × (1 ≤ count)
 FitsItsLine Nothing = IsEvent Nothing
 
 -- a line is one that the grammar takes
@@ -57,14 +58,27 @@ lines_in (Came l ∷ view) = lines_in view
 abbrev pub set_most : ℕ
 set_most = MAX_SET
 
--- A client that takes at most so many lines, and so many lines and letters: the records of the
+-- A client of a world of 1 to 16 storage nodes that takes at most so many lines, and so many
+-- lines and letters: the records of the
 -- lines have numbers of 32 bits, and all that it takes can be counted in 64 bits.
 pub record ArgsFit (lines inputs : ℕ) (me : ClientArgs) : Type 0 where
   pub number : IsClient me.number
+  pub count : IsCount me.conf.b
   pub calls : me.calls + set_most * lines ≤ most_u32
   pub counted : inputs ≤ most_u64
 
--- What a client shows as it takes something fits its line, where the lines that it took are such as the grammar takes.
+-- a letter is on a link
+abbrev pub LetterFits : Letter → Type 0
+LetterFits l = IsLink l.from l.to
+
+-- What a client does: its events fit their lines, and its letters are on links.
+pub record ClientActsFit (acts : Acts) : Type 0 where
+  pub events : AllByRecursion FitsItsLine acts.events
+  pub letters : AllByRecursion LetterFits acts.letters
+
+-- What a client does as it takes something fits, where the lines that it took are such as the
+-- grammar takes.
 abbrev pub ClientEventsFit : Type 0
-ClientEventsFit = (me : ClientArgs) (view : List Input) (x : Input) → ArgsFit (lines_in (x ∷ view)) (length (x ∷ view)) me
-    → AllByRecursion IsInput (x ∷ view) → AllByRecursion FitsItsLine (acts_of me view x).events
+ClientEventsFit = (me : ClientArgs) (view : List Input) (x : Input)
+    → ArgsFit (lines_in (x ∷ view)) (length (x ∷ view)) me → AllByRecursion IsInput (x ∷ view)
+    → ClientActsFit (acts_of me view x)
