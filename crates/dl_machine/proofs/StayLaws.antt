@@ -147,7 +147,7 @@ kept_by_all P each s [] p = p
 kept_by_all P each s (a ∷ xs) p = kept_by_all P each (atom s a).state xs (each s a p)
 
 -- there are at least as many letters as before
-atom_letters : (s : State) (a : Atom) → length s.letters ≤ length (atom s a).state.letters
+pub atom_letters : (s : State) (a : Atom) → length s.letters ≤ length (atom s a).state.letters
 atom_letters s a =
     let e = (atom_keeps s a).stays.letters in
     subst (λ n. length s.letters ≤ n) (sym (ap length e.same ∙ length-append s.letters e.more)) (omega arith)

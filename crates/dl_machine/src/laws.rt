@@ -34,7 +34,8 @@ pub fn sessions_are_given()
     ensures { SessionsAreGiven }
 {}
 
-/// The values of each event of a run are such as its line takes, as far as they come from lines of the schedule.
+/// The values of each event of a run are such as its line takes, and so are the numbers of the lines, within the limits of a run and
+/// in the replay of every schedule. Values that come out of the metadata tree or out of stored entries are open: `FitsItsLine` says which.
 pub fn events_fit_their_lines()
     ensures { EventsFitTheirLines }
 {}

@@ -14,8 +14,8 @@ use Rattle.dl_transcript.specs.Ranges.{IsEvent}
 use Rattle.dl_rules_client.specs.Acts.{Input, Line, Came, ClientArgs, Acts}
 use Rattle.dl_rules_client.specs.Clients.{acts_of}
 
--- What is said of the values of an event: all that its line asks for; of an event that takes values out of letters or out of the
--- metadata tree, those which come from lines of the schedule.
+-- What is said of the values of an event: all that its line asks for; of an event that takes values out of the metadata tree or out
+-- of stored entries, the others alone.
 abbrev pub FitsItsLine : Event → Type 0
 FitsItsLine (Joined c k) = IsEvent (Joined c k)
 FitsItsLine (Expired k) = IsEvent (Expired k)
@@ -40,7 +40,7 @@ FitsItsLine (Reading c stream) = IsEvent (Reading c stream)
 FitsItsLine (End c stream) = IsEvent (End c stream)
 FitsItsLine (Rows c stream rows) = IsClient c × IsName stream
 FitsItsLine (Refused c why) = IsClient c
-FitsItsLine (Mail from to count) = IsLink from to × (1 ≤ count)
+FitsItsLine (Mail from to count) = IsEvent (Mail from to count)
 FitsItsLine Nothing = IsEvent Nothing
 
 -- a line is one that the grammar takes
