@@ -19,6 +19,17 @@ use Rattle.dl_session.specs.declared.admit.Admit.TheVariants as admit
 use Rattle.dl_session.specs.Sessions.{is_live, after_connect, after_expiry, after_run}
 use Rattle.dl_formats.specs.declared.conf.Conf.{Conf}
 use Rattle.dl_formats.specs.declared.cut.Cut.{Cut}
+use Rattle.dl_formats.specs.declared.segment.SegmentMeta.{SegmentMeta}
+use Rattle.dl_formats.specs.declared.segment.SegmentMeta.TheVariants.{InProgress, Completed}
+use Rattle.dl_formats.specs.Keys.{path_of}
+use Rattle.dl_formats.specs.NodeBytes.{ten_nines}
+use Rattle.dl_formats.specs.Reading.{segment_at}
+use Rattle.dl_tree.specs.declared.node.Node as tree
+use Rattle.std.specs.Prelude.{bytes_eq, filter_map}
+use Rattle.std.specs.List.{cons_option}
+use Rattle.std.specs.FinMap.{get, keys}
+use Rattle.dl_rules_client.proofs.NodeRanges.{SegmentFits, segment_such}
+use Rattle.dl_rules_client.proofs.RangeLists.{AllOk}
 use Rattle.dl_formats.specs.declared.fault.MetaBytesFault.{MetaBytesFault}
 use Rattle.dl_formats.specs.Keys as key
 use Rattle.dl_formats.specs.Reading.{cut_at}
@@ -40,7 +51,8 @@ use Rattle.dl_rules_client.proofs.InputRanges.{client_fits, fewer, taken_line_fi
 use Rattle.dl_machine.specs.States.{Node, Mode, Up, Down, Lost, is_up, with_node, with_bookie, State, Outcome, Joined, LedgerSeen, put, with_client}
 use Rattle.dl_machine.specs.States.{with_letters, with_meta_item, marks, quietly, then_shows}
 use Rattle.dl_machine.specs.States.{can_take, args_of}
-use Rattle.dl_machine.specs.Growth.{grow_event, entries_to_grow, grown_to, grows, with_entry, with_sent, confirms, stream_in, Closing, closes}
+use Rattle.dl_machine.specs.Growth.{closing_of, closing_by, closing_at, first_in, count_in, closing_to, grow_event, entries_to_grow, grown_to, grows}
+use Rattle.dl_machine.specs.Growth.{with_entry, with_sent, confirms, stream_in, Closing, closes}
 use Rattle.dl_machine.specs.Growth.{closing_with, point_events, points_by, is_done, ops_of, shows_op, shows_ops, shows_run}
 use Rattle.dl_machine.specs.Atoms.{commits, answer_to, takes_row, reply_letter, stopped_node, killed_node, risen_node, swapped_node, loosened_node}
 use Rattle.dl_machine.specs.Atoms.{lost_node, Atom}
@@ -165,10 +177,60 @@ sent_fits n i s None is fit = fit
 sent_fits n i s (Some x) is fit =
     ledger_fits n i s x.ledger (with_entry (s.ledgers x.ledger) x) (all-last SentFits (s.ledgers x.ledger).sent x (fit.ledgers x.ledger) is) fit
 
+-- the segment that is closed has at most ten digits
+abbrev ClosingFits : Closing → Type 0
+ClosingFits x = x.segment ≤ ten_nines
+
+-- a segment of a stream
+closing_of_fits : (path : List ℕ) (count : ℕ) (stream : Option (List ℕ)) (segment ledger : ℕ) → segment ≤ ten_nines
+    → AllSome ClosingFits (closing_of path count stream segment ledger)
+closing_of_fits path count None segment ledger is = tt
+closing_of_fits path count (Some stream) segment ledger is = cond_both (AllSome ClosingFits) (bytes_eq (path_of (key.Ledger ledger)) path) _ None is tt
+
+-- what a node's bytes say
+closing_by_fits : (ledger_path : List ℕ) (count : ℕ) (path : List ℕ) (r : Result SegmentMeta MetaBytesFault) → AllOk r SegmentFits
+    → AllSome ClosingFits (closing_by ledger_path count path r)
+closing_by_fits ledger_path count path (Ok (InProgress segment ledger)) is = closing_of_fits ledger_path count _ segment ledger is
+closing_by_fits ledger_path count path (Ok (Completed segment ledger entries rows last)) is = tt
+closing_by_fits ledger_path count path (Err fault) is = tt
+
+-- what a node says
+closing_at_fits : (ledger_path : List ℕ) (count : ℕ) (path : List ℕ) (n : Option tree.Node) → AllSome ClosingFits (closing_at ledger_path count path n)
+closing_at_fits ledger_path count path None = tt
+closing_at_fits ledger_path count path (Some n) = closing_by_fits ledger_path count path (segment_at n.bytes) (segment_such n.bytes)
+
+-- the first of a value, where there is one, and of others
+front_fits : {B : Type 0} (P : B → Type 0) (o : Option B) (others : List B) → AllSome P o → AllSome P (first_in others)
+    → AllSome P (first_in (cons_option o others))
+front_fits P None others is rest = rest
+front_fits P (Some y) others is rest = is
+
+-- the first of values
+first_fits : {A B : Type 0} (P : B → Type 0) (f : A → Option B) → ((x : A) → AllSome P (f x)) → (xs : List A) → AllSome P (first_in (filter_map f xs))
+first_fits P f h [] = tt
+first_fits P f h (x ∷ xs) = front_fits P (f x) (filter_map f xs) (h x) (first_fits P f h xs)
+
+-- the closing that a set is
+closing_to_fits : (t : Nodes) (path : List ℕ) (count : Option ℕ) → AllSome ClosingFits (closing_to t path count)
+closing_to_fits t path None = tt
+closing_to_fits t path (Some count) =
+    first_fits ClosingFits (λ p. closing_at path count p (get t p)) (λ p. closing_at_fits path count p (get t p)) (keys t)
+
+-- the closing that an operation is
+closing_with_fits : (t : Nodes) (x : OneOp) → AllSome ClosingFits (closing_with t x)
+closing_with_fits t (Create path bytes mode) = tt
+closing_with_fits t (Delete path version) = tt
+closing_with_fits t (Set path bytes version) = closing_to_fits t path (count_in bytes)
+closing_with_fits t (Check path version) = tt
+closing_with_fits t (Get path) = tt
+closing_with_fits t (Children path) = tt
+
 -- a closing
-closes_fit : (n i : ℕ) (s : State) (x : Option Closing) → StateFits n i s → OutcomeFits n i (closes s x)
-closes_fit n i s None fit = quietly_fits n i s fit
-closes_fit n i s (Some x) fit = then_fits n i (grows s x.ledger x.count) (event.Closed x.stream x.segment ∷ []) (grows_fit n i s x.ledger x.count fit) (tt, tt)
+closes_fit : (n i : ℕ) (s : State) (x : Option Closing) → AllSome ClosingFits x → StateFits n i s → OutcomeFits n i (closes s x)
+closes_fit n i s None is fit = quietly_fits n i s fit
+closes_fit n i s (Some x) is fit =
+    then_fits n i (grows s x.ledger x.count) (event.Closed x.stream x.segment ∷ []) (grows_fit n i s x.ledger x.count fit)
+    ((omega arith, omega (arith, is)), tt)
 
 -- the point of a stream
 point_fits : (stream : Option (List ℕ)) (cut : Result Cut MetaBytesFault) → AllByRecursion FitsItsLine (point_events stream cut)
@@ -190,7 +252,8 @@ ops_fit : (n i : ℕ) (t : Nodes) (xs : List OneOp) (s : State) → StateFits n 
 ops_fit n i t [] s fit = quietly_fits n i s fit
 ops_fit n i t (x ∷ xs) s fit =
     let now : Outcome = shows_op t x s in
-    let shown : OutcomeFits n i now = then_fits n i (closes s (closing_with t x)) (points_by x) (closes_fit n i s (closing_with t x) fit) (points_fit x) in
+    let shown : OutcomeFits n i now =
+        then_fits n i (closes s (closing_with t x)) (points_by x) (closes_fit n i s (closing_with t x) (closing_with_fits t x) fit) (points_fit x) in
     let later : OutcomeFits n i (shows_ops t xs now.state) = ops_fit n i t xs now.state shown.state in
     record { state = later.state; events = all-append FitsItsLine now.events (shows_ops t xs now.state).events shown.events later.events }
 

@@ -14,10 +14,13 @@ use Rattle.dl_formats.specs.declared.conf.Conf.{Conf}
 use Rattle.dl_formats.specs.declared.fault.MetaBytesFault.{MetaBytesFault}
 use Rattle.dl_formats.specs.declared.ledger.LedgerState.{LedgerState}
 use Rattle.dl_formats.specs.declared.ledger.LedgerState.TheVariants.{Writing, Recovering, Closed}
+use Rattle.dl_formats.specs.declared.segment.SegmentMeta.{SegmentMeta}
+use Rattle.dl_formats.specs.declared.segment.SegmentMeta.TheVariants as meta
 use Rattle.dl_formats.specs.declared.segment_name.SegmentName.{SegmentName}
 use Rattle.dl_formats.specs.declared.segment_name.SegmentName.TheVariants.{Progress, Completed}
 use Rattle.dl_formats.specs.NodeBytes.{ten_nines, max_u64, most_count}
-use Rattle.dl_formats.specs.Reading.{between_from, versioned_from, node_from, with_place, state_from, ledger_of, ledger_from, ledger_at}
+use Rattle.dl_formats.specs.Reading.{between_from, versioned_from, node_from, with_place, state_from, ledger_of, ledger_from, ledger_at, in_progress_from}
+use Rattle.dl_formats.specs.Reading.{completed_from, kind_from, segment_from, segment_at}
 use Rattle.dl_rules_stream.specs.Nodes.{LedgerNode}
 use Rattle.dl_formats.specs.Keys as key
 use Rattle.dl_rules_stream.specs.Orders as stream
@@ -40,6 +43,15 @@ second_such {A} {B} first second P h bytes x rest e =
     let v = bind_ok (second u.0.0 u.0.1) (λ (z : B × List ℕ). Ok ((u.0.0, z.0), z.1)) (x, rest) u.2 in
     let its : v.0.0 ≡ x.1 = ap (λ (w : (A × B) × List ℕ). w.0.1) (ok_is _ _ v.2) in
     subst P its (h u.0.0 u.0.1 v.0.0 v.0.1 v.1)
+
+-- a field in front of another
+first_such : {A B : Type 0} (first : List ℕ → Result (A × List ℕ) Fault) (second : A → List ℕ → Result (B × List ℕ) Fault) (P : A → Type 0)
+    → ReadsSuch first P → ReadsSuch (then_at first second) (λ (x : A × B). P x.0)
+first_such {A} {B} first second P h bytes x rest e =
+    let u = bind_ok (first bytes) (λ (y : A × List ℕ). second y.0 y.1 >>= λ z. Ok ((y.0, z.0), z.1)) (x, rest) e in
+    let v = bind_ok (second u.0.0 u.0.1) (λ (z : B × List ℕ). Ok ((u.0.0, z.0), z.1)) (x, rest) u.2 in
+    let its : u.0.0 ≡ x.0 = ap (λ (w : (A × B) × List ℕ). w.0.0) (ok_is _ _ v.2) in
+    subst P its (h bytes u.0.0 u.0.1 u.1)
 
 -- a field as another value
 map_such : {A B : Type 0} (make : A → B) (read : List ℕ → Result (A × List ℕ) Fault) (P : B → Type 0) → ReadsSuch read (λ a. P (make a))
@@ -115,6 +127,38 @@ counts_such =
 fields_fit : (bytes : List ℕ) → AllOk (ledger_at bytes) (λ f. f.count ≤ max_u64)
 fields_fit bytes = place_such (length bytes) (node_from ledger_from bytes) (λ f. f.count ≤ max_u64)
     (node_such ledger_from (λ f. f.count ≤ max_u64) (map_such ledger_of _ (λ f. f.count ≤ max_u64) counts_such) bytes)
+
+-- ---- segments
+
+-- a segment in progress has at most ten digits
+abbrev pub SegmentFits : SegmentMeta → Type 0
+SegmentFits (meta.InProgress segment ledger) = segment ≤ ten_nines
+SegmentFits (meta.Completed segment ledger entries rows last) = Unit {0}
+
+-- the fields of a segment in progress
+progress_such : ReadsSuch in_progress_from SegmentFits
+progress_such =
+    map_such (λ (x : ℕ × ℕ). meta.InProgress x.0 x.1) (then_at (between_from w64 1 ten_nines) (λ segment. between_from w64 0 ten_nines)) SegmentFits
+    (first_such (between_from w64 1 ten_nines) (λ segment. between_from w64 0 ten_nines) (λ n. n ≤ ten_nines) (between_such w64 1 ten_nines))
+
+-- those of a completed one
+completed_such : ReadsSuch completed_from SegmentFits
+completed_such =
+    map_such (λ (x : ℕ × (ℕ × (ℕ × (ℕ × ℕ)))). meta.Completed x.0 x.1.0 x.1.1.0 x.1.1.1.0 x.1.1.1.1) _ SegmentFits (λ bytes a rest read. tt)
+
+-- the fields of a segment
+kind_such : (kind : ℕ) → ReadsSuch (kind_from kind) SegmentFits
+kind_such kind bytes a rest read = go (kind == 1) read
+  where
+    go : (t : Bool) → cond t (in_progress_from bytes) (completed_from bytes) ≡ Ok (a, rest) → SegmentFits a
+    go true e = progress_such bytes a rest e
+    go false e = completed_such bytes a rest e
+
+-- the segment in a node
+pub segment_such : (bytes : List ℕ) → AllOk (segment_at bytes) SegmentFits
+segment_such bytes = place_such (length bytes) (node_from segment_from bytes) SegmentFits
+    (node_such segment_from SegmentFits (map_such (λ (x : ℕ × SegmentMeta). x.1) (then_at (between_from w8 1 2) kind_from) SegmentFits
+    (second_such (between_from w8 1 2) kind_from SegmentFits kind_such)) bytes)
 
 -- ---- names
 

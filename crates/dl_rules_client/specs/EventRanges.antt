@@ -10,7 +10,7 @@ use Rattle.dl_transcript.specs.declared.event.Event.{Event}
 use Rattle.dl_transcript.specs.declared.event.Event.TheVariants.{Joined, Expired, Created, Removed, Released, Whole, Writer, Took, Sent, Grow, Ack, Committed}
 use Rattle.dl_transcript.specs.declared.event.Event.TheVariants.{Closed, Recovered, Point, Truncated, Purged, OpenedAt, OpenedFrom, Reading, End, Rows}
 use Rattle.dl_transcript.specs.declared.event.Event.TheVariants.{Refused, Mail, Nothing}
-use Rattle.dl_transcript.specs.Ranges.{IsEvent}
+use Rattle.dl_transcript.specs.Ranges.{IsU64, IsEvent}
 use Rattle.dl_rules_client.specs.Acts.{Input, Line, Came, ClientArgs, Acts}
 use Rattle.dl_rules_client.specs.Clients.{acts_of}
 
@@ -29,7 +29,7 @@ FitsItsLine (Sent c k e) = IsEvent (Sent c k e)
 FitsItsLine (Grow stream d txid c n payload) = IsEvent (Grow stream d txid c n payload)
 FitsItsLine (Ack c n d) = IsEvent (Ack c n d)
 FitsItsLine (Committed stream d) = IsEvent (Committed stream d)
-FitsItsLine (Closed stream k) = Unit {0}
+FitsItsLine (Closed stream k) = IsU64 k
 FitsItsLine (Recovered c stream d) = IsEvent (Recovered c stream d)
 FitsItsLine (Point stream d) = Unit {0}
 FitsItsLine (Truncated c stream d) = IsEvent (Truncated c stream d)
