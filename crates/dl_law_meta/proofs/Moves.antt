@@ -92,9 +92,10 @@ next_number x = (ap counter_in x.was ∙ x.given, ap counter_in x.now ∙ ap (λ
 -- what a request leaves moves each node as it may
 leaves_moves : (t u : Nodes) (session : ℕ) (r : Request) (a : MetaAnswer) → IsInForm r → Leaves t session r a u → (m : Key) → IsKey m → MovesAt t u m
 leaves_moves t u session (MakeStream s) a f x m h =
-    moves_by t u _ x.others
-    (new_moves _ x.stream tt,
-    (new_moves _ x.maxseq tt, (new_moves _ x.cut tt, (new_moves _ x.alloc tt, (new_moves _ x.locks tt, (new_moves _ x.segs tt, tt)))))) m h
+    moves_by t u _ x.others (
+      new_moves _ x.stream tt,
+      (new_moves _ x.maxseq tt, (new_moves _ x.cut tt, (new_moves _ x.alloc tt, (new_moves _ x.locks tt, (new_moves _ x.segs tt, tt))))),
+    ) m h
 leaves_moves t u session (MakeAgain s) a f x m h = moves_by t u _ x.others (new_moves _ x.locks tt, (new_moves _ x.segs tt, tt)) m h
 leaves_moves t u session (RemoveStream s) a f x m h = moves_by t u _ x.others (gone_moves x.locks tt, (gone_moves x.segs tt, tt)) m h
 leaves_moves t u session (MakeMember s) a f x m h =
@@ -140,7 +141,7 @@ root_none k =
 -- the nodes of the tree with which a configuration begins
 first_at : (c : conf.Conf) (k : Key) → IsKey k
     → node (first_tree c) k
-        ≡ cond (is_key k Ledgers) (Some (lasting [])) (cond (is_key k Streams) (Some (lasting [])) (cond (is_key k Conf) (Some (lasting (conf_bytes c))) None))
+    ≡ cond (is_key k Ledgers) (Some (lasting [])) (cond (is_key k Streams) (Some (lasting [])) (cond (is_key k Conf) (Some (lasting (conf_bytes c))) None))
 first_at c k h =
     insert_by_key (with_node (with_node root_alone Conf (conf_bytes c)) Streams []) Ledgers (lasting []) k tt h
     ∙ ap (cond (is_key k Ledgers) (Some (lasting [])))

@@ -132,9 +132,13 @@ on_complete t u c form p x segment ledger number ten h = record {
         (p.1 x.progress.old x.progress.was x.progress.fitting))
 
     completed_is : segment ≡ c.segment → CompletedOn segment ledger (completed_node c)
-    completed_is w =
-        (c.entries, c.rows, c.last, ap (λ (k : ℕ). segment_bytes (meta.Completed k c.ledger c.entries c.rows c.last)) (sym w)
-        ∙ ap (λ (l : ℕ). segment_bytes (meta.Completed segment l c.entries c.rows c.last)) (sym (ledger_is w)))
+    completed_is w = (
+      c.entries,
+      c.rows,
+      c.last,
+      ap (λ (k : ℕ). segment_bytes (meta.Completed k c.ledger c.entries c.rows c.last)) (sym w)
+          ∙ ap (λ (l : ℕ). segment_bytes (meta.Completed segment l c.entries c.rows c.last)) (sym (ledger_is w)),
+    )
 
     completed_by : (n : Node) → node u (Completed c.stream segment) ≡ Some n → (segment ≡ c.segment) ⊎ (segment ≡ c.segment → ⊥)
         → CompletedOn segment ledger n.bytes
@@ -221,9 +225,10 @@ reached_step t u s segment ten m (starts b is form p x) h =
     subst (λ (z : List ℕ). OldProgress t u z segment × Reached u z segment) is (started_step (subst (λ (z : List ℕ). Reached t z segment) (sym is) h))
   where
     started_step : Reached t b.stream segment → OldProgress t u b.stream segment × Reached u b.stream segment
-    started_step g =
-        (old_same _ _ (start_progress t u b form p x segment ten (λ e. absurd (omega (arith, e, start_behind t u b p x segment g)))),
-        reached_start t u b form p x segment g)
+    started_step g = (
+      old_same _ _ (start_progress t u b form p x segment ten (λ e. absurd (omega (arith, e, start_behind t u b p x segment g)))),
+      reached_start t u b form p x segment g,
+    )
 reached_step t u s segment ten m (completes c is form p x) h =
     subst (λ (z : List ℕ). OldProgress t u z segment × Reached u z segment) is
     (completed_step (cases_eq segment c.segment) (subst (λ (z : List ℕ). Reached t z segment) (sym is) h))

@@ -49,7 +49,7 @@ made_by t a b c d e f s name m1 m2 m3 m4 m5 m6 =
 -- what the request to make a stream leaves
 pub stream_made : (t : Nodes) (session : ℕ) (s : List ℕ) (r : List OneAnswer × Nodes) → NoSlash s
     → run_of t session 0 (makes (Stream s) [] ∷ makes (MaxSeq s) (maxseq_node 0 0) ∷ makes (Cut s) (cut_node first_place)
-        ∷ makes (Alloc s) (alloc_node None) ∷ makes (Locks s) [] ∷ makes (Segs s) [] ∷ []) ≡ Ok r
+    ∷ makes (Alloc s) (alloc_node None) ∷ makes (Locks s) [] ∷ makes (Segs s) [] ∷ []) ≡ Ok r
     → StreamMade t r.1 s
 stream_made t session s r name e =
     let a = goes (λ u. MadeAt t u (Stream s) Streams (lasting [])) t session 0 _ _ r (make_at t session (Stream s) Streams [] name tt refl) e in

@@ -253,7 +253,7 @@ ops_fit n i t [] s fit = quietly_fits n i s fit
 ops_fit n i t (x ∷ xs) s fit =
     let now : Outcome = shows_op t x s in
     let shown : OutcomeFits n i now =
-        then_fits n i (closes s (closing_with t x)) (points_by x) (closes_fit n i s (closing_with t x) (closing_with_fits t x) fit) (points_fit x) in
+    then_fits n i (closes s (closing_with t x)) (points_by x) (closes_fit n i s (closing_with t x) (closing_with_fits t x) fit) (points_fit x) in
     let later : OutcomeFits n i (shows_ops t xs now.state) = ops_fit n i t xs now.state shown.state in
     record { state = later.state; events = all-append FitsItsLine now.events (shows_ops t xs now.state).events shown.events later.events }
 

@@ -29,7 +29,7 @@ first_fault-append from n s (x ∷ xs) ys h = go (nat_le n x.0 && keeps s x.1) h
         → (first_fault (from + 1) x.0 (sees s x.1) xs ≡ None
         → first_fault (from + 1) x.0 (sees s x.1) (xs ++ ys) ≡ first_fault ((from + 1) + length xs) (last_line x.0 xs) (history_after (sees s x.1) xs) ys)
         → cond t (first_fault (from + 1) x.0 (sees s x.1) (xs ++ ys)) (Some from)
-            ≡ first_fault (from + length (x ∷ xs)) (last_line x.0 xs) (history_after (sees s x.1) xs) ys
+        ≡ first_fault (from + length (x ∷ xs)) (last_line x.0 xs) (history_after (sees s x.1) xs) ys
     go true h ih = ih h ∙ ap (λ k. first_fault k (last_line x.0 xs) (history_after (sees s x.1) xs) ys) place
     go false h ih = absurd cc
 
