@@ -1,5 +1,6 @@
 -- Where a deletion found no children of a node, no node stands below it.
-use Rattle.std.proofs.Common.{◌≡◌, ℕ, ◌-◌, Bool, true, false, cond, not, ◌||◌, ◌==◌, List, [], ◌∷◌, ◌++◌, length, take, drop, map, filter, Option, Some, None, is_some, refl, sym, ap, ◌∙◌, arith, bytes_eq, append_assoc}
+use Rattle.std.proofs.Common.{◌≡◌, ℕ, ◌-◌, Bool, true, false, cond, not, ◌||◌, ◌==◌, List, [], ◌∷◌, ◌++◌, length, take, drop, map, filter, Option, Some}
+use Rattle.std.proofs.Common.{None, is_some, refl, sym, ap, ◌∙◌, arith, bytes_eq, append_assoc}
 use Rattle.std.proofs.lemmas.Bool.{true≢false, and_from}
 use Rattle.std.proofs.lemmas.Bool.Decides.{nat_tests}
 use Rattle.std.proofs.lemmas.List.{append_cancel_right, take-append-drop}
@@ -11,7 +12,8 @@ use Rattle.dl_tree.specs.Paths.{root, name_of, front_of, below, is_below, is_chi
 use Rattle.dl_tree.specs.Trees.{Nodes, child_names}
 use Rattle.dl_tree.proofs.MapLemmas.{same_path, path_is}
 use Rattle.dl_tree.proofs.PartLemmas.{parts_found}
-use Rattle.dl_formats.specs.Keys.{Key, Conf, Streams, Ledgers, Ledger, Stream, MaxSeq, Cut, Alloc, Locks, Member, Segs, Progress, Completed, IsKey, parent_key, path_of, front_of as front_key, name_of as name_key}
+use Rattle.dl_formats.specs.Keys.{Key, Conf, Streams, Ledgers, Ledger, Stream, MaxSeq, Cut, Alloc, Locks, Member, Segs, Progress, Completed, IsKey}
+use Rattle.dl_formats.specs.Keys.{parent_key, path_of, front_of as front_key, name_of as name_key}
 use Rattle.dl_formats.proofs.KeyLemmas.{by_parents}
 use Rattle.dl_law_meta.specs.Keyed.{node}
 
@@ -46,6 +48,7 @@ second [] = 0
 second (c ∷ []) = 0
 second (c ∷ d ∷ rest) = d
 
+-- no key has the path of the root
 pub no_root : (k : Key) → path_of k ≡ root → ⊥
 unfolding path_of second
 no_root Conf e = absurd (omega (arith, ap second e))
@@ -62,6 +65,7 @@ no_root (Segs s) e = absurd (omega (arith, ap second e))
 no_root (Progress s k) e = absurd (omega (arith, ap second e))
 no_root (Completed s k) e = absurd (omega (arith, ap second e))
 
+-- what stands below a key begins with its path and a slash
 below_is : (p : Key) → below (path_of p) ≡ path_of p ++ 47 ∷ []
 below_is p = go (bytes_eq (path_of p) root) refl
   where
@@ -69,6 +73,7 @@ below_is p = go (bytes_eq (path_of p) root) refl
     go true w = absurd (no_root p ((bytes_decides (path_of p) root).0 w))
     go false w = refl
 
+-- a list with an item is not empty
 some_length : (c : ℕ) (cs : List ℕ) → not (length (c ∷ cs) == 0) ≡ true
 some_length c cs = grind (arith, nat_tests)
 
@@ -80,10 +85,12 @@ child_is path front part c cs e some free prefix f =
     ((bytes_decides (front_of path) prefix).1 (ap front_of e ∙ front_is front part free ∙ sym f))
     (ap (λ (x : List ℕ). not (length x == 0)) (ap name_of e ∙ (parts_found front part free).1 ∙ some) ∙ some_length c cs)
 
+-- a value that is not there is none
 none_of : {A : Type 0} (o : Option A) → is_some o ≡ false → o ≡ None
 none_of None e = refl
 none_of (Some a) e = absurd (true≢false e)
 
+-- where a node has no children, no key below it has a node
 pub none_below : (t : Nodes) (k p : Key) (c : ℕ) (cs : List ℕ) → IsKey k → parent_key k ≡ Some p → name_key k ≡ c ∷ cs → child_names t (path_of p) ≡ []
     → node t k ≡ None
 none_below t k p c cs h up some e =

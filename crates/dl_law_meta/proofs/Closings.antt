@@ -7,7 +7,9 @@ use Rattle.dl_formats.specs.Keys.{Ledger}
 use Rattle.dl_tree.specs.declared.node.Node.{Node}
 use Rattle.dl_tree.specs.Trees.{Nodes}
 use Rattle.dl_rules_nodes.specs.Items.{MetaItem}
-use Rattle.dl_rules_stream.specs.Requests.{Request, MakeStream, MakeAgain, RemoveStream, MakeMember, ListMembers, LeaveLock, Look, MakeLedger, TakeLedger, StartSegment, GetSegment, GetLedger, MarkLedger, CloseLedger, CompleteSegment, ListCut, LookCut, SetCut, DropSegment}
+use Rattle.dl_rules_stream.specs.Requests.{Request, MakeStream, MakeAgain, RemoveStream, MakeMember, ListMembers, LeaveLock, Look, MakeLedger, TakeLedger}
+use Rattle.dl_rules_stream.specs.Requests.{StartSegment, GetSegment, GetLedger, MarkLedger, CloseLedger, CompleteSegment, ListCut, LookCut, SetCut}
+use Rattle.dl_rules_stream.specs.Requests.{DropSegment}
 use Rattle.dl_law_meta.specs.Keyed.{node}
 use Rattle.dl_law_meta.specs.Effects.{IsInForm, Leaves, LedgerSet}
 use Rattle.dl_law_meta.specs.Histories.{tree_of, node_after, WhileNamed, IsNotClosed, Supposes, AreRequests, AreSupposed}
@@ -87,6 +89,7 @@ module _ (l : ℕ) (ten : HasTenDigits l) (n : Node) (closed : IsClosed n) where
           closed_step (tree_of older) (tree_of (x ∷ older)) l ten n (e ∙ ap (λ (y : Node). Some y) s) closed
           (item_step Supposes x older (owners_are older (any_are Supposes older h.1)) h)
 
+-- the node of a ledger that is closed keeps its bytes
 pub closed_stay : ClosedLedgersStay
 closed_stay newer older l n h ten e closed =
     (kept Supposes (Lasts l ten n closed) (lasts_step l ten n closed) newer older h

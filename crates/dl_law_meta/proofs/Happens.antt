@@ -14,7 +14,9 @@ use Rattle.dl_formats.specs.Reading.{segment_at}
 use Rattle.dl_formats.proofs.DecodeLemmas.{node_again}
 use Rattle.dl_formats.proofs.Exactness.{maxseq_exact, segment_exact}
 use Rattle.dl_tree.specs.Trees.{Nodes}
-use Rattle.dl_rules_stream.specs.Requests.{Request, MakeStream, MakeAgain, RemoveStream, MakeMember, ListMembers, LeaveLock, Look, MakeLedger, TakeLedger, StartSegment, GetSegment, GetLedger, MarkLedger, CloseLedger, CompleteSegment, ListCut, LookCut, SetCut, DropSegment, Completion, Beginning, maxseq_node}
+use Rattle.dl_rules_stream.specs.Requests.{Request, MakeStream, MakeAgain, RemoveStream, MakeMember, ListMembers, LeaveLock, Look, MakeLedger, TakeLedger}
+use Rattle.dl_rules_stream.specs.Requests.{StartSegment, GetSegment, GetLedger, MarkLedger, CloseLedger, CompleteSegment, ListCut, LookCut, SetCut}
+use Rattle.dl_rules_stream.specs.Requests.{DropSegment, Completion, Beginning, maxseq_node}
 use Rattle.dl_law_meta.specs.Keyed.{node, lasting}
 use Rattle.dl_law_meta.specs.Effects.{IsInForm, IsBeginning, IsCompletion, Leaves, SegmentStarted, SegmentCompleted}
 use Rattle.dl_law_meta.specs.Histories.{segment_in, read_as, Supposes}
@@ -22,26 +24,32 @@ use Rattle.dl_law_meta.proofs.Steps.{Step, begins, rests, asks}
 
 -- ---- what bytes name
 
+-- the node `maxseq` of a segment names that segment
 pub named_by : (segment last : ℕ) → IsMaxSeq (record { segment = segment; last = last }) → segment_in (maxseq_node segment last) ≡ Some segment
 named_by segment last h =
     ap (λ (r : Result formats.MaxSeq MetaBytesFault). read_as r (λ x. x.segment))
     (node_again maxseq_exact (maxseq_node segment last) (record { segment = segment; last = last }) h refl)
 
+-- the node `maxseq` of a new stream names none
 pub no_segment_yet : segment_in (maxseq_node 0 0) ≡ Some 0
 no_segment_yet = named_by 0 0 (record { least = omega arith; most = omega arith }, record { least = omega arith; most = omega arith })
 
+-- the node of a segment in progress is read as it was written
 pub progress_read : (segment ledger : ℕ) → IsSegmentNumber segment → HasTenDigits ledger
     → segment_at (segment_bytes (meta.InProgress segment ledger)) ≡ Ok (meta.InProgress segment ledger)
 progress_read segment ledger h ten =
     node_again segment_exact (segment_bytes (meta.InProgress segment ledger)) (meta.InProgress segment ledger)
     (record { least = h.0; most = omega (arith, h.1) }, record { least = omega arith; most = omega (arith, ten) }) refl
 
+-- segments in progress that are the same have the same ledger
 pub same_ledger : (segment ledger k other : ℕ) → meta.InProgress segment ledger ≡ meta.InProgress k other → ledger ≡ other
 same_ledger segment ledger k other e = cc
 
+-- readings that are the same give the same segment
 pub ok_same : (x y : SegmentMeta) → ◌≡◌ {A = Result SegmentMeta MetaBytesFault} (Ok x) (Ok y) → x ≡ y
 ok_same x y e = cc
 
+-- the bytes of a node say one segment
 pub same_read : (x y : SegmentMeta) (bytes : List ℕ) → segment_at bytes ≡ Ok x → segment_at bytes ≡ Ok y → x ≡ y
 same_read x y bytes a b = ok_same x y (sym a ∙ b)
 

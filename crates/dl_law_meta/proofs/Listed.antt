@@ -1,5 +1,6 @@
 -- No segment is above the one that `maxseq` names, and none is both in progress and completed.
-use Rattle.std.proofs.Common.{◌≡◌, ℕ, ◌+◌, ◌<◌, ◌≤◌, Bool, true, false, not, ◌&&◌, ◌==◌, nat_lt, List, [], ◌∷◌, Option, Some, None, refl, sym, ap, ◌∙◌, subst, arith, bytes_eq, inl, inr, ◌⊎◌}
+use Rattle.std.proofs.Common.{◌≡◌, ℕ, ◌+◌, ◌<◌, ◌≤◌, Bool, true, false, not, ◌&&◌, ◌==◌, nat_lt, List, [], ◌∷◌, Option, Some, None, refl, sym, ap, ◌∙◌}
+use Rattle.std.proofs.Common.{subst, arith, bytes_eq, inl, inr, ◌⊎◌}
 use Rattle.std.proofs.lemmas.Bool.{cases_eq, and_right, ne_eqb, ltb-true, ltb-false}
 use Rattle.std.proofs.lemmas.Option.{same_Some, none-some}
 use Rattle.dl_fields.specs.Digits.{HasTenDigits}
@@ -20,15 +21,18 @@ use Rattle.dl_law_meta.proofs.Happens.{named_by, no_segment_yet, Happens, nothin
 
 -- ---- no segment is above the one that `maxseq` names, and none is in progress and completed
 
+-- A stream has no node of a segment with this number.
 pub record NoSegment (t : Nodes) (s : List ℕ) (k : ℕ) : Type 0 where
   pub progress : node t (Progress s k) ≡ None
   pub completed : node t (Completed s k) ≡ None
 
+-- The node `maxseq` names the greatest segment of a stream.
 pub record NamesMost (t : Nodes) (s : List ℕ) (bytes : List ℕ) : Type 0 where
   pub most : ℕ
   pub named : segment_in bytes ≡ Some most
   pub above : (k : ℕ) → HasTenDigits k → most < k → NoSegment t s k
 
+-- A stream's segments are within what `maxseq` names, and none is in progress and completed.
 pub record Listed (t : Nodes) (s : List ℕ) : Type 0 where
   pub none : node t (MaxSeq s) ≡ None → (k : ℕ) → HasTenDigits k → NoSegment t s k
   pub some : (n : Node) → node t (MaxSeq s) ≡ Some n → NamesMost t s n.bytes
@@ -39,6 +43,7 @@ pub record SegmentsMove (t u : Nodes) (s : List ℕ) : Type 0 where
   pub progress : (k : ℕ) → HasTenDigits k → MovesAt t u (Progress s k)
   pub completed : (k : ℕ) → HasTenDigits k → MovesAt t u (Completed s k)
 
+-- a node that isn't there and isn't made is not there later
 pub none_stays : (o p : Option Node) → o ≡ None → ((n : Node) → p ≡ Some n → o ≡ Some n) → p ≡ None
 none_stays o None e f = refl
 none_stays o (Some n) e f = absurd (none-some n (sym e ∙ f n refl))
@@ -56,9 +61,11 @@ module _ (t u : Nodes) (s : List ℕ) (m : SegmentsMove t u s) (never : WasSet t
   pub still_one : Listed t s → (k : ℕ) → HasTenDigits k → (n : Node) → node u (Progress s k) ≡ Some n → node u (Completed s k) ≡ None
   still_one h k ten n e = none_stays _ _ (h.one k ten n (sym (progress_same k ten) ∙ e)) (completed_old k ten)
 
+-- a node `maxseq` that isn't there is not set
 pub never_made : (t u : Nodes) (s : List ℕ) → node t (MaxSeq s) ≡ None → WasSet t u (MaxSeq s) → ⊥
 never_made t u s none w = none-some w.old (sym none ∙ w.was)
 
+-- where `maxseq` stays, the segments stay within what it names
 pub listed_same : (t u : Nodes) (s : List ℕ) → SegmentsMove t u s → node u (MaxSeq s) ≡ node t (MaxSeq s) → Listed t s → Listed u s
 listed_same t u s m same h = record {
   none = λ e k ten. still_none t u s m never k ten (h.none (sym same ∙ e) k ten);
@@ -72,6 +79,7 @@ listed_same t u s m same h = record {
     some_by : (n : Node) → NamesMost t s n.bytes → NamesMost u s n.bytes
     some_by n x = record { most = x.most; named = x.named; above = λ k ten low. still_none t u s m never k ten (x.above k ten low) }
 
+-- the segments of a new stream are none
 pub listed_made : (t u : Nodes) (s : List ℕ) → SegmentsMove t u s → node t (MaxSeq s) ≡ None → node u (MaxSeq s) ≡ Some (lasting (maxseq_node 0 0))
     → Listed t s → Listed u s
 listed_made t u s m free now h = record {
@@ -175,21 +183,25 @@ module _ (t u : Nodes) (c : Completion) (form : IsCompletion c) (p : Supposes t 
       now : NamesMost t c.stream x.maxseq.old.bytes → NamesMost u c.stream (maxseq_node c.greatest c.last)
       now m = record { most = c.greatest; named = named_by c.greatest c.last form.most; above = still m }
 
+-- the segments stay within what `maxseq` names through each change
 pub listed_step : (t u : Nodes) (s : List ℕ) → SegmentsMove t u s → Happens t u s → Listed t s → Listed u s
 listed_step t u s m (nothing same) h = listed_same t u s m same h
 listed_step t u s m (makes free now) h = listed_made t u s m free now h
 listed_step t u s m (starts b is form p x) h = subst (Listed u) is (listed_start t u b form p x (subst (Listed t) (sym is) h))
 listed_step t u s m (completes c is form p x) h = subst (Listed u) is (listed_complete t u c form p x (subst (Listed t) (sym is) h))
 
+-- how each item moves a stream's segments
 pub item_segments : (s : List ℕ) → NoSlash s → (x : MetaItem) (older : List MetaItem) → AreRequests (x ∷ older)
     → SegmentsMove (tree_of older) (tree_of (x ∷ older)) s
 item_segments s name x older h =
     record { progress = λ k ten. each_moves x older (Progress s k) h (name, ten); completed = λ k ten. each_moves x older (Completed s k) h (name, ten) }
 
+-- what each item does to a stream
 pub item_happens : (s : List ℕ) → NoSlash s → (x : MetaItem) (older : List MetaItem) → AreSupposed (x ∷ older) → Happens (tree_of older) (tree_of (x ∷ older)) s
 item_happens s name x older h =
     happens (tree_of older) (tree_of (x ∷ older)) s name (item_step Supposes x older (owners_are older (any_are Supposes older h.1)) h)
 
+-- so are the segments of every stream behind all items
 pub listed : (s : List ℕ) → NoSlash s → (items : List MetaItem) → AreSupposed items → Listed (tree_of items) s
 unfolding meta_from
 listed s name [] h = record {

@@ -1,5 +1,6 @@
 -- A segment stays on its ledger, and is started once, where those who start segments and complete them have read what they suppose.
-use Rattle.std.proofs.Common.{◌≡◌, ℕ, ◌+◌, ◌≤◌, Bool, true, false, cond, nat_lt, List, [], ◌∷◌, Option, Some, None, is_some, refl, sym, ap, ◌∙◌, subst, arith, inl, inr, ◌⊎◌}
+use Rattle.std.proofs.Common.{◌≡◌, ℕ, ◌+◌, ◌≤◌, Bool, true, false, cond, nat_lt, List, [], ◌∷◌, Option, Some, None, is_some, refl, sym, ap, ◌∙◌, subst}
+use Rattle.std.proofs.Common.{arith, inl, inr, ◌⊎◌}
 use Rattle.std.proofs.lemmas.Bool.{cond-false, cases_eq, ltb-true, ltb-false}
 use Rattle.std.proofs.lemmas.Option.{same_Some, none-some}
 use Rattle.dl_fields.specs.Digits.{HasTenDigits}
@@ -20,10 +21,12 @@ use Rattle.dl_law_meta.specs.Laws.{WasSet, SegmentsStayOnLedgers, StartersStay}
 use Rattle.dl_law_meta.proofs.Steps.{kept, older_are, any_are}
 use Rattle.dl_law_meta.proofs.Stays.{not_set, new_some}
 use Rattle.dl_law_meta.proofs.Happens.{named_by, progress_read, same_ledger, same_read, Happens, nothing, makes, starts, completes}
-use Rattle.dl_law_meta.proofs.Listed.{SegmentsMove, NamesMost, Listed, progress_same, completed_old, start_progress, start_completed, complete_progress, complete_completed, listed, item_segments, item_happens}
+use Rattle.dl_law_meta.proofs.Listed.{SegmentsMove, NamesMost, Listed, progress_same, completed_old, start_progress, start_completed, complete_progress}
+use Rattle.dl_law_meta.proofs.Listed.{complete_completed, listed, item_segments, item_happens}
 
 -- ---- a segment on its ledger
 
+-- the bytes of a node say that a segment is completed on this ledger
 abbrev CompletedOn : ℕ → ℕ → List ℕ → Type 0
 CompletedOn segment ledger bytes = (entries : ℕ) × (rows : ℕ) × (last : ℕ) × (bytes ≡ segment_bytes (meta.Completed segment ledger entries rows last))
 
@@ -41,9 +44,11 @@ record OnLedger (t : Nodes) (s : List ℕ) (segment ledger : ℕ) : Type 0 where
   progress : (n : Node) → node t (Progress s segment) ≡ Some n → n.bytes ≡ segment_bytes (meta.InProgress segment ledger)
   completed : (n : Node) → node t (Completed s segment) ≡ Some n → CompletedOn segment ledger n.bytes
 
+-- a segment that `maxseq` has reached is so, where `maxseq` stays
 reached_same : (t u : Nodes) (s : List ℕ) (segment : ℕ) → node u (MaxSeq s) ≡ node t (MaxSeq s) → Reached t s segment → Reached u s segment
 reached_same t u s segment same h = record { maxseq = h.maxseq; there = same ∙ h.there; most = h.most; named = h.named; within = h.within }
 
+-- a segment is on its ledger, where `maxseq` stays
 on_same : (t u : Nodes) (s : List ℕ) (segment ledger : ℕ) → HasTenDigits segment → SegmentsMove t u s → node u (MaxSeq s) ≡ node t (MaxSeq s)
     → OnLedger t s segment ledger → OnLedger u s segment ledger
 on_same t u s segment ledger ten m same h = record {
@@ -64,6 +69,7 @@ start_behind t u b p x segment h =
     let here : h.most ≡ read.0 = same_Some h.most read.0 (sym h.named ∙ ap (λ (n : Node). segment_in n.bytes) same ∙ read.1) in
     omega (arith, here, read.2, h.within)
 
+-- a segment that was reached is so behind the start of one
 reached_start : (t u : Nodes) (b : Beginning) (form : IsBeginning b) (p : Supposes t (StartSegment b)) (x : SegmentStarted t u b) (segment : ℕ)
     → Reached t b.stream segment → Reached u b.stream segment
 reached_start t u b form p x segment h = record {
@@ -74,6 +80,7 @@ reached_start t u b form p x segment h = record {
   within = omega (arith, start_behind t u b p x segment h);
 }
 
+-- a segment is on its ledger behind the start of one
 on_start : (t u : Nodes) (b : Beginning) (form : IsBeginning b) (p : Supposes t (StartSegment b)) (x : SegmentStarted t u b) (segment ledger : ℕ)
     → HasTenDigits segment → OnLedger t b.stream segment ledger → OnLedger u b.stream segment ledger
 on_start t u b form p x segment ledger ten h = record {
@@ -85,6 +92,7 @@ on_start t u b form p x segment ledger ten h = record {
     other : segment ≡ b.segment → ⊥
     other e = absurd (omega (arith, e, start_behind t u b p x segment h.reached))
 
+-- a segment that was reached is so behind a completion
 reached_complete : (t u : Nodes) (c : Completion) (form : IsCompletion c) (p : Supposes t (CompleteSegment c)) (x : SegmentCompleted t u c) (segment : ℕ)
     → Reached t c.stream segment → Reached u c.stream segment
 reached_complete t u c form p x segment h = record {
@@ -102,6 +110,7 @@ reached_complete t u c form p x segment h = record {
         (sym h.named ∙ ap (λ (n : Node). segment_in n.bytes) same ∙ p.0 x.maxseq.old x.maxseq.was x.maxseq.fitting) in
         omega (arith, here, h.within)
 
+-- a segment is on its ledger behind a completion
 on_complete : (t u : Nodes) (c : Completion) (form : IsCompletion c) (p : Supposes t (CompleteSegment c)) (x : SegmentCompleted t u c) (segment ledger : ℕ)
     → IsSegmentNumber segment → HasTenDigits ledger
     → OnLedger t c.stream segment ledger → OnLedger u c.stream segment ledger
@@ -123,8 +132,13 @@ on_complete t u c form p x segment ledger number ten h = record {
         (p.1 x.progress.old x.progress.was x.progress.fitting))
 
     completed_is : segment ≡ c.segment → CompletedOn segment ledger (completed_node c)
-    completed_is w =
-        (c.entries, c.rows, c.last, ap (λ (k : ℕ). segment_bytes (meta.Completed k c.ledger c.entries c.rows c.last)) (sym w) ∙ ap (λ (l : ℕ). segment_bytes (meta.Completed segment l c.entries c.rows c.last)) (sym (ledger_is w)))
+    completed_is w = (
+      c.entries,
+      c.rows,
+      c.last,
+      ap (λ (k : ℕ). segment_bytes (meta.Completed k c.ledger c.entries c.rows c.last)) (sym w)
+          ∙ ap (λ (l : ℕ). segment_bytes (meta.Completed segment l c.entries c.rows c.last)) (sym (ledger_is w)),
+    )
 
     completed_by : (n : Node) → node u (Completed c.stream segment) ≡ Some n → (segment ≡ c.segment) ⊎ (segment ≡ c.segment → ⊥)
         → CompletedOn segment ledger n.bytes
@@ -133,6 +147,7 @@ on_complete t u c form p x segment ledger number ten h = record {
         (same_Some (lasting (completed_node c)) n (sym x.completed.now ∙ ap (λ (y : ℕ). node u (Completed c.stream y)) (sym w) ∙ e)) (completed_is w)
     completed_by n e (inr other) = h.completed n (sym (complete_completed t u c form p x segment number.1 other) ∙ e)
 
+-- a segment is on its ledger behind each change
 on_step : (t u : Nodes) (s : List ℕ) (segment ledger : ℕ) → IsSegmentNumber segment → HasTenDigits ledger → SegmentsMove t u s → Happens t u s
     → OnLedger t s segment ledger → OnLedger u s segment ledger
 on_step t u s segment ledger number ten m (nothing same) h = on_same t u s segment ledger number.1 m same h
@@ -163,6 +178,7 @@ reached_first t s segment n ten h e = go (node t (MaxSeq s)) refl
     go None k = absurd (none-some n (sym (h.none k segment ten).progress ∙ e))
     go (Some m) k = at m k (h.some m k)
 
+-- a segment in progress is on the ledger that its node names
 on_first : (t : Nodes) (s : List ℕ) (segment ledger : ℕ) (n : Node) → HasTenDigits segment → Listed t s → node t (Progress s segment) ≡ Some n
     → n.bytes ≡ segment_bytes (meta.InProgress segment ledger) → OnLedger t s segment ledger
 on_first t s segment ledger n ten h e is = record {
@@ -171,6 +187,7 @@ on_first t s segment ledger n ten h e is = record {
   completed = λ y f. absurd (none-some y (sym (h.one segment ten n e) ∙ f));
 }
 
+-- segments stay on their ledgers
 pub on_ledgers : SegmentsStayOnLedgers
 on_ledgers newer older s segment ledger n h name number ten e is =
     let last = kept Supposes (λ items. OnLedger (tree_of items) s segment ledger) step newer older h
@@ -188,10 +205,12 @@ on_ledgers newer older s segment ledger n h name number ten e is =
 abbrev OldProgress : Nodes → Nodes → List ℕ → ℕ → Type 0
 OldProgress t u s segment = is_new (node t (Progress s segment)) (node u (Progress s segment)) ≡ false
 
+-- a node that stays is not new
 old_same : (o p : Option Node) → p ≡ o → is_new o p ≡ false
 old_same None p e = ap is_some e
 old_same (Some n) p e = refl
 
+-- a node that is gone is not new
 old_gone : (o p : Option Node) → p ≡ None → is_new o p ≡ false
 old_gone None p e = ap is_some e
 old_gone (Some n) p e = refl
@@ -206,8 +225,10 @@ reached_step t u s segment ten m (starts b is form p x) h =
     subst (λ (z : List ℕ). OldProgress t u z segment × Reached u z segment) is (started_step (subst (λ (z : List ℕ). Reached t z segment) (sym is) h))
   where
     started_step : Reached t b.stream segment → OldProgress t u b.stream segment × Reached u b.stream segment
-    started_step g =
-        (old_same _ _ (start_progress t u b form p x segment ten (λ e. absurd (omega (arith, e, start_behind t u b p x segment g)))), reached_start t u b form p x segment g)
+    started_step g = (
+      old_same _ _ (start_progress t u b form p x segment ten (λ e. absurd (omega (arith, e, start_behind t u b p x segment g)))),
+      reached_start t u b form p x segment g,
+    )
 reached_step t u s segment ten m (completes c is form p x) h =
     subst (λ (z : List ℕ). OldProgress t u z segment × Reached u z segment) is
     (completed_step (cases_eq segment c.segment) (subst (λ (z : List ℕ). Reached t z segment) (sym is) h))
@@ -217,6 +238,7 @@ reached_step t u s segment ten m (completes c is form p x) h =
     completed_step (inl e) g = (old_gone _ _ (ap (λ (y : ℕ). node u (Progress c.stream y)) e ∙ x.progress.now), reached_complete t u c form p x segment g)
     completed_step (inr other) g = (old_same _ _ (complete_progress t u c form p x segment ten other), reached_complete t u c form p x segment g)
 
+-- behind an item, a segment that was reached is so, and its node in progress is no new one
 item_reached : (s : List ℕ) (segment : ℕ) → NoSlash s → HasTenDigits segment → (x : MetaItem) (older : List MetaItem) → AreSupposed (x ∷ older)
     → Reached (tree_of older) s segment
     → OldProgress (tree_of older) (tree_of (x ∷ older)) s segment × Reached (tree_of (x ∷ older)) s segment
@@ -224,6 +246,7 @@ item_reached s segment name ten x older h f =
     reached_step (tree_of older) (tree_of (x ∷ older)) s segment ten (item_segments s name x older (any_are Supposes (x ∷ older) h))
     (item_happens s name x older h) f
 
+-- a segment that was started has been reached
 starter_reached : (items : List MetaItem) (s : List ℕ) (segment : ℕ) (ledger : ℕ) → AreSupposed items → NoSlash s → HasTenDigits segment
     → starter items s segment ≡ Some ledger → Reached (tree_of items) s segment
 unfolding starter
@@ -238,12 +261,14 @@ starter_reached (x ∷ older) s segment ledger h name ten e =
     go true w f old = let p = new_some _ _ w in reached_first (tree_of (x ∷ older)) s segment p.0 ten (listed s name (x ∷ older) h) p.1
     go false w f old = (item_reached s segment name ten x older h (old f)).1
 
+-- who started a segment stays so behind an item
 starter_step : (s : List ℕ) (segment ledger : ℕ) → NoSlash s → HasTenDigits segment → (x : MetaItem) (older : List MetaItem) → AreSupposed (x ∷ older)
     → starter older s segment ≡ Some ledger → starter (x ∷ older) s segment ≡ Some ledger
 unfolding starter
 starter_step s segment ledger name ten x older h e =
     cond-false _ _ _ (item_reached s segment name ten x older h (starter_reached older s segment ledger h.1 name ten e)).0 ∙ e
 
+-- who started a segment stays so
 pub starters_stay : StartersStay
 starters_stay newer older s segment ledger h name number e =
     kept Supposes (λ items. starter items s segment ≡ Some ledger) (starter_step s segment ledger name number.1) newer older h e

@@ -9,18 +9,21 @@ use Rattle.dl_law_meta.proofs.Stays.{lasting_stay, made_once}
 use Rattle.dl_law_meta.proofs.Happens.{progress_read}
 use Rattle.dl_law_meta.proofs.OnLedgers.{on_ledgers}
 
+-- a node that is there later at the same version has the same bytes
 there_bytes : (n m : Node) (o : Option Node) → IsThereLater n o → o ≡ Some m → m.version ≡ n.version → m.bytes ≡ n.bytes
 there_bytes n m o h e v = later (subst (IsThereLater n) e h)
   where
     later : IsLater n m → m.bytes ≡ n.bytes
     later x = x.bytes v
 
+-- the same of a node that may be gone
 gone_bytes : (n m : Node) (o : Option Node) → IsGoneOrLater n o → o ≡ Some m → m.version ≡ n.version → m.bytes ≡ n.bytes
 gone_bytes n m o h e v = later (subst (IsGoneOrLater n) e h)
   where
     later : IsLater n m → m.bytes ≡ n.bytes
     later x = x.bytes v
 
+-- each reading says what stands there as long as the version is the same
 pub readings_stay : EachReadingStays
 readings_stay newer older h = record {
   lasting = λ k n key lasts e m f v. there_bytes n m _ (lasting_stay newer older k n any key lasts e) f v;

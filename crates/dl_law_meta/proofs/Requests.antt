@@ -9,7 +9,9 @@ use Rattle.dl_types.specs.declared.meta_answer.MetaAnswer.TheVariants as answer
 use Rattle.dl_tree.specs.Trees.{Nodes, Outcome, Run, outcome_of, run_of, after_request, after_one, after_all}
 use Rattle.dl_formats.specs.declared.ledger.LedgerState.TheVariants.{Recovering, Closed}
 use Rattle.dl_formats.specs.Keys.{MaxSeq, Cut, Alloc, Ledger, Locks, Segs}
-use Rattle.dl_rules_stream.specs.Requests.{Request, MakeStream, MakeAgain, RemoveStream, MakeMember, ListMembers, LeaveLock, Look, MakeLedger, TakeLedger, StartSegment, GetSegment, GetLedger, MarkLedger, CloseLedger, CompleteSegment, ListCut, LookCut, SetCut, DropSegment, ledger_node, segment_key, op_of}
+use Rattle.dl_rules_stream.specs.Requests.{Request, MakeStream, MakeAgain, RemoveStream, MakeMember, ListMembers, LeaveLock, Look, MakeLedger, TakeLedger}
+use Rattle.dl_rules_stream.specs.Requests.{StartSegment, GetSegment, GetLedger, MarkLedger, CloseLedger, CompleteSegment, ListCut, LookCut, SetCut}
+use Rattle.dl_rules_stream.specs.Requests.{DropSegment, ledger_node, segment_key, op_of}
 use Rattle.dl_law_meta.specs.Effects.{ChildrenOf, ContentOf, answer_to, tree_after, Leaves, LeavesBy}
 use Rattle.dl_law_meta.specs.Laws.{EachRequestLeaves}
 use Rattle.dl_law_meta.proofs.Told.{several_read, single_read}
@@ -17,6 +19,7 @@ use Rattle.dl_law_meta.proofs.Streams.{stream_made, stream_made_again, stream_re
 use Rattle.dl_law_meta.proofs.Ledgers.{ledger_made, ledger_set, ledger_taken}
 use Rattle.dl_law_meta.proofs.Segments.{segment_started, segment_completed, segment_dropped}
 
+-- what a request of several operations leaves, by what they leave when they are done
 several_leave : (t : Nodes) (session : ℕ) (r : Request) (ops : List OneOp) → op_of r ≡ op.Multi ops
     → ((x : List OneAnswer × Nodes) → run_of t session 0 ops ≡ Ok x → Leaves t session r (answer.Many x.0) x.1)
     → LeavesBy t session r (answer_to t session r) (tree_after t session r)
@@ -28,6 +31,7 @@ several_leave t session r ops is each =
     go (Ok x) k = each x k
     go (Err w) k = refl
 
+-- the same of a request of one operation
 one_leaves : (t : Nodes) (session : ℕ) (r : Request) (x : OneOp) → op_of r ≡ op.One x
     → ((a : OneAnswer × Nodes) → outcome_of t session x ≡ Ok a → Leaves t session r (answer.One a.0) a.1)
     → LeavesBy t session r (answer_to t session r) (tree_after t session r)
@@ -39,6 +43,7 @@ one_leaves t session r x is each =
     go (Ok a) k = each a k
     go (Err w) k = refl
 
+-- what each request leaves
 pub each_leaves : EachRequestLeaves
 unfolding op_of
 each_leaves t session (MakeStream s) h = several_leave t session (MakeStream s) _ refl (λ x e. stream_made t session s x h e)

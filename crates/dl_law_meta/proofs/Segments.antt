@@ -12,13 +12,16 @@ use Rattle.dl_rules_stream.specs.Requests.{Completion, Beginning, makes, maxseq_
 use Rattle.dl_law_meta.specs.Keyed.{lasting}
 use Rattle.dl_law_meta.specs.Effects.{IsBeginning, IsCompletion, MemberMayBeThere, SegmentStarted, SegmentCompleted, SegmentDropped}
 use Rattle.dl_law_meta.proofs.Done.{goes, ends}
-use Rattle.dl_law_meta.proofs.Keyed.{SetAt, MadeAt, DeletedAt, FoundAt, set_at, make_at, delete_at, check_at, found_there, put_before, put_behind, nothing_changed, new_by, set_by, gone_by, parent_by, there_by}
+use Rattle.dl_law_meta.proofs.Keyed.{SetAt, MadeAt, DeletedAt, FoundAt, set_at, make_at, delete_at, check_at, found_there, put_before, put_behind}
+use Rattle.dl_law_meta.proofs.Keyed.{nothing_changed, new_by, set_by, gone_by, parent_by, there_by}
 
 -- a segment is started
 
+-- the node of the segment that is started
 abbrev progress_node : Beginning → List ℕ
 progress_node b = segment_bytes (meta.InProgress b.segment b.ledger)
 
+-- what the operations of a start leave
 started_by : (t u v w x y : Nodes) (b : Beginning) → IsBeginning b → FoundAt t u b.member None
     → SetAt u v (MaxSeq b.stream) (Some b.version) (maxseq_node b.segment b.last)
     → MadeAt v w (Progress b.stream b.segment) (Segs b.stream) (lasting (progress_node b)) → FoundAt w x (path_of (Ledger b.ledger)) (Some 0)
@@ -41,6 +44,7 @@ started_by t u v w x y b form c d m l e =
       others = put_before d1.puts a1;
     }
 
+-- what the request to start a segment leaves
 pub segment_started : (t : Nodes) (session : ℕ) (b : Beginning) (r : List OneAnswer × Nodes) → IsBeginning b → run_of t session 0 (starts b) ≡ Ok r
     → SegmentStarted t r.1 b
 segment_started t session b r form e =
@@ -58,6 +62,7 @@ segment_started t session b r form e =
 
 -- a segment is completed
 
+-- what the operations of a completion leave
 completed_by : (t v w x : Nodes) (c : Completion) → IsCompletion c → MemberMayBeThere t c.member → DeletedAt t v (Progress c.stream c.segment) (Some 0)
     → MadeAt v w (Completed c.stream c.segment) (Segs c.stream) (lasting (completed_node c))
     → SetAt w x (MaxSeq c.stream) (Some c.version) (maxseq_node c.greatest c.last) → SegmentCompleted t x c
@@ -76,11 +81,13 @@ completed_by t v w x c form owner d m e =
       others = put_before d.puts a1;
     }
 
+-- the operations of a completion behind the check of the member
 abbrev completes_behind : Completion → List OneOp
 completes_behind c =
     Delete (path_of (Progress c.stream c.segment)) (Some 0) ∷ makes (Completed c.stream c.segment) (completed_node c) ∷ Set (path_of (MaxSeq c.stream))
     (maxseq_node c.greatest c.last) (Some c.version) ∷ []
 
+-- what they leave
 completed_behind : (t : Nodes) (session place : ℕ) (c : Completion) (r : List OneAnswer × Nodes) → IsCompletion c → MemberMayBeThere t c.member
     → run_of t session place (completes_behind c) ≡ Ok r → SegmentCompleted t r.1 c
 completed_behind t session place c r form owner e =
@@ -95,6 +102,7 @@ completed_behind t session place c r form owner e =
     ends (λ u. SegmentCompleted t u c) f.next session (place + 1 + 1 + 1) f.answers r.1
     (completed_by t d.next m.next f.next c form owner d.met m.met f.met) f.rest
 
+-- the same behind the check of a member, where there is one
 by_member : (t : Nodes) (session : ℕ) (c : Completion) (r : List OneAnswer × Nodes) (o : Option (List ℕ)) → c.member ≡ o → IsCompletion c
     → run_of t session 0 (checks_member o ++ completes_behind c) ≡ Ok r → SegmentCompleted t r.1 c
 by_member t session c r None is form e = completed_behind t session 0 c r form (subst (MemberMayBeThere t) (sym is) tt) e
@@ -103,21 +111,29 @@ by_member t session c r (Some member) is form e =
     completed_behind t session 1 c (a.answers, r.1) form (subst (MemberMayBeThere t) (sym is) (found_there t a.next member None a.met))
     (subst (λ (u : Nodes). run_of u session 1 (completes_behind c) ≡ Ok (a.answers, r.1)) a.met.same a.rest)
 
+-- what the request to complete a segment leaves
 pub segment_completed : (t : Nodes) (session : ℕ) (c : Completion) (r : List OneAnswer × Nodes) → IsCompletion c → run_of t session 0 (completes c) ≡ Ok r
     → SegmentCompleted t r.1 c
 segment_completed t session c r form e = by_member t session c r c.member refl form e
 
 -- a segment is deleted with its ledger
 
+-- what the operations of a drop leave
 dropped_by : (t u v : Nodes) (s : List ℕ) (segment ledger : ℕ) → NoSlash s → HasTenDigits segment → HasTenDigits ledger
     → DeletedAt t u (Completed s segment) None → DeletedAt u v (Ledger ledger) None → SegmentDropped t v s segment ledger
 dropped_by t u v s segment ledger name k l d e =
     let after = put_before e.puts nothing_changed in
-    record { completed = gone_by nothing_changed d after (name, k) refl refl; ledger_gone = gone_by (put_behind nothing_changed d.puts) e nothing_changed l refl refl; others = put_before d.puts after }
+    record {
+      completed = gone_by nothing_changed d after (name, k) refl refl;
+      ledger_gone = gone_by (put_behind nothing_changed d.puts) e nothing_changed l refl refl;
+      others = put_before d.puts after;
+    }
 
+-- what the request to drop a segment leaves
 pub segment_dropped : (t : Nodes) (session : ℕ) (s : List ℕ) (segment ledger : ℕ) (r : List OneAnswer × Nodes) → NoSlash s → HasTenDigits segment
     → HasTenDigits ledger
-    → run_of t session 0 (Delete (path_of (Completed s segment)) None ∷ Delete (path_of (Ledger ledger)) None ∷ []) ≡ Ok r → SegmentDropped t r.1 s segment ledger
+    → run_of t session 0 (Delete (path_of (Completed s segment)) None ∷ Delete (path_of (Ledger ledger)) None ∷ []) ≡ Ok r
+    → SegmentDropped t r.1 s segment ledger
 segment_dropped t session s segment ledger r name k l e =
     let a = goes (λ u. DeletedAt t u (Completed s segment) None) t session 0 _ _ r (delete_at t session (Completed s segment) None (name, k)) e in
     let b = goes (λ u. DeletedAt a.next u (Ledger ledger) None) a.next session 1 _ _ (a.answers, r.1)

@@ -30,6 +30,7 @@ pub older_are : (P : Nodes → Request → Type 0) (newer older : List MetaItem)
 older_are P [] older h = h
 older_are P (x ∷ newer) older h = older_are P newer older h.1
 
+-- an item that keeps more keeps what any does
 any_item : (P : Nodes → Request → Type 0) (older : List MetaItem) (x : MetaItem) → IsItemBehind P older x → IsItemBehind IsAny older x
 any_item P older (Setup c) h = h
 any_item P older (Connect session) h = h
@@ -47,12 +48,14 @@ pub data Step (P : Nodes → Request → Type 0) (t u : Nodes) : Type 0 where
   rests : ((k : Key) → IsKey k → (IsMemberKey k → ⊥) → node u k ≡ node t k) → Step P t u
   asks : (session : ℕ) (r : Request) (a : MetaAnswer) → IsInForm r → P t r → Leaves t session r a u → Step P t u
 
+-- a request with its answer is a step
 answer_step : (P : Nodes → Request → Type 0) (t u : Nodes) (session : ℕ) (r : Request) (a : MetaAnswer) → IsInForm r → P t r → LeavesBy t session r a u
     → Step P t u
 answer_step P t u session r (answer.One y) f p x = asks session r (answer.One y) f p x
 answer_step P t u session r (answer.Many ys) f p x = asks session r (answer.Many ys) f p x
 answer_step P t u session r (answer.Failed place why) f p x = rests (λ k g m. ap (λ (v : Nodes). node v k) x)
 
+-- the tree that a request leaves is a step behind
 request_step : (P : Nodes → Request → Type 0) (t : Nodes) (session : ℕ) (r : Request) → IsInForm r → P t r → Step P t (tree_after t session r)
 request_step P t session r f p = answer_step P t (tree_after t session r) session r (answer_to t session r) f p (each_leaves t session r f)
 
@@ -61,14 +64,17 @@ unowned_by : (session : ℕ) (n : Node) (owner : Option ℕ) → ((j : ℕ) → 
 unowned_by session n None none = refl
 unowned_by session n (Some j) none = absurd (none j refl)
 
+-- a node that is no member's has no owner
 unowned : (t : Nodes) (session : ℕ) (k : Key) (o : Option Node) → node t k ≡ o → OwnersAreMembers t → IsKey k → (IsMemberKey k → ⊥)
     → cond (not (is_owned session o)) o None ≡ o
 unowned t session k None is owners g other = refl
 unowned t session k (Some n) is owners g other = unowned_by session n n.owner (λ j e. other (owners k n j g is e))
 
+-- the end of a session leaves the nodes that are no member's
 end_same : (t : Nodes) (session : ℕ) (k : Key) → OwnersAreMembers t → IsKey k → (IsMemberKey k → ⊥) → node (without_session t session) k ≡ node t k
 end_same t session k owners g other = get-without_session t session (path_of k) ∙ unowned t session k (node t k) refl owners g other
 
+-- each item is a step
 pub item_step : (P : Nodes → Request → Type 0) (x : MetaItem) (older : List MetaItem) → OwnersAreMembers (tree_of older) → AreItemsBy P (x ∷ older)
     → Step P (tree_of older) (tree_of (x ∷ older))
 unfolding meta_from does

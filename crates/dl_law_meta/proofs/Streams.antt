@@ -13,11 +13,13 @@ use Rattle.dl_rules_stream.specs.Requests.{makes, maxseq_node, cut_node, alloc_n
 use Rattle.dl_law_meta.specs.Keyed.{lasting}
 use Rattle.dl_law_meta.specs.Effects.{StreamMade, StreamMadeAgain, StreamRemoved, MemberMade, MemberLeft, CutSet}
 use Rattle.dl_law_meta.proofs.Done.{goes, ends, set_told}
-use Rattle.dl_law_meta.proofs.Keyed.{MadeAt, DeletedAt, make_at, delete_at, set_at, member_at, put_before, put_behind, nothing_changed, new_by, gone_by, set_by, counted_by, kid_by, counted_others}
+use Rattle.dl_law_meta.proofs.Keyed.{MadeAt, DeletedAt, make_at, delete_at, set_at, member_at, put_before, put_behind, nothing_changed, new_by, gone_by}
+use Rattle.dl_law_meta.proofs.Keyed.{set_by, counted_by, kid_by, counted_others}
 use Rattle.dl_law_meta.proofs.Children.{none_below}
 
 -- a stream is made
 
+-- what the operations of a new stream leave
 made_by : (t a b c d e f : Nodes) (s : List ℕ) → NoSlash s → MadeAt t a (Stream s) Streams (lasting [])
     → MadeAt a b (MaxSeq s) (Stream s) (lasting (maxseq_node 0 0)) → MadeAt b c (Cut s) (Stream s) (lasting (cut_node first_place))
     → MadeAt c d (Alloc s) (Stream s) (lasting (alloc_node None)) → MadeAt d e (Locks s) (Stream s) (lasting []) → MadeAt e f (Segs s) (Stream s) (lasting [])
@@ -44,8 +46,11 @@ made_by t a b c d e f s name m1 m2 m3 m4 m5 m6 =
       others = put_before m1.puts a1;
     }
 
+-- what the request to make a stream leaves
 pub stream_made : (t : Nodes) (session : ℕ) (s : List ℕ) (r : List OneAnswer × Nodes) → NoSlash s
-    → run_of t session 0 (makes (Stream s) [] ∷ makes (MaxSeq s) (maxseq_node 0 0) ∷ makes (Cut s) (cut_node first_place) ∷ makes (Alloc s) (alloc_node None) ∷ makes (Locks s) [] ∷ makes (Segs s) [] ∷ []) ≡ Ok r → StreamMade t r.1 s
+    → run_of t session 0 (makes (Stream s) [] ∷ makes (MaxSeq s) (maxseq_node 0 0) ∷ makes (Cut s) (cut_node first_place)
+    ∷ makes (Alloc s) (alloc_node None) ∷ makes (Locks s) [] ∷ makes (Segs s) [] ∷ []) ≡ Ok r
+    → StreamMade t r.1 s
 stream_made t session s r name e =
     let a = goes (λ u. MadeAt t u (Stream s) Streams (lasting [])) t session 0 _ _ r (make_at t session (Stream s) Streams [] name tt refl) e in
     let b = goes (λ u. MadeAt a.next u (MaxSeq s) (Stream s) (lasting (maxseq_node 0 0))) a.next session 1 _ _ (a.answers, r.1)
@@ -63,12 +68,19 @@ stream_made t session s r name e =
 
 -- a stream is made again
 
+-- what the operations leave by which a stream is made again
 again_by : (t a b : Nodes) (s : List ℕ) → NoSlash s → MadeAt t a (Locks s) (Stream s) (lasting []) → MadeAt a b (Segs s) (Stream s) (lasting [])
     → StreamMadeAgain t b s
 again_by t a b s name m1 m2 =
     let after = put_before m2.puts nothing_changed in
-    record { parent = m1.parent; locks = new_by nothing_changed m1 after name refl refl; segs = new_by (put_behind nothing_changed m1.puts) m2 nothing_changed name refl refl; others = put_before m1.puts after }
+    record {
+      parent = m1.parent;
+      locks = new_by nothing_changed m1 after name refl refl;
+      segs = new_by (put_behind nothing_changed m1.puts) m2 nothing_changed name refl refl;
+      others = put_before m1.puts after;
+    }
 
+-- what the request to make a stream again leaves
 pub stream_made_again : (t : Nodes) (session : ℕ) (s : List ℕ) (r : List OneAnswer × Nodes) → NoSlash s
     → run_of t session 0 (makes (Locks s) [] ∷ makes (Segs s) [] ∷ []) ≡ Ok r → StreamMadeAgain t r.1 s
 stream_made_again t session s r name e =
@@ -79,6 +91,7 @@ stream_made_again t session s r name e =
 
 -- a stream is removed
 
+-- what the operations of a removal leave
 removed_by : (t a b : Nodes) (s : List ℕ) → NoSlash s → DeletedAt t a (Locks s) None → DeletedAt a b (Segs s) None → StreamRemoved t b s
 removed_by t a b s name d1 d2 =
     let after = put_before d2.puts nothing_changed in
@@ -92,6 +105,7 @@ removed_by t a b s name d1 d2 =
       others = put_before d1.puts after;
     }
 
+-- what the request to remove a stream leaves
 pub stream_removed : (t : Nodes) (session : ℕ) (s : List ℕ) (r : List OneAnswer × Nodes) → NoSlash s
     → run_of t session 0 (Delete (path_of (Locks s)) None ∷ Delete (path_of (Segs s)) None ∷ []) ≡ Ok r → StreamRemoved t r.1 s
 stream_removed t session s r name e =
@@ -101,12 +115,20 @@ stream_removed t session s r name e =
 
 -- members of a lock
 
+-- what the request to make a member leaves
 pub member_made : (t : Nodes) (session : ℕ) (s : List ℕ) (r : OneAnswer × Nodes) → NoSlash s
     → outcome_of t session (Create (member_stem s) [] EphemeralCounted) ≡ Ok r → MemberMade t r.1 session s (answer.One r.0)
 member_made t session s r name e =
     let x = member_at t session s name r e in
-    record { number = x.number; locks = counted_by x name refl; member = kid_by x (name, x.room); told = ap (λ (a : OneAnswer). answer.One a) x.answer; others = counted_others x }
+    record {
+      number = x.number;
+      locks = counted_by x name refl;
+      member = kid_by x (name, x.room);
+      told = ap (λ (a : OneAnswer). answer.One a) x.answer;
+      others = counted_others x;
+    }
 
+-- what the request to leave a lock leaves
 pub member_left : (t : Nodes) (session : ℕ) (s : List ℕ) (n : ℕ) (r : OneAnswer × Nodes) → IsKey (Member s n)
     → outcome_of t session (Delete (path_of (Member s n)) None) ≡ Ok r → MemberLeft t r.1 s n
 member_left t session s n r h e =
@@ -115,8 +137,14 @@ member_left t session s n r h e =
 
 -- the cut
 
+-- what the request to set a point leaves
 pub cut_set : (t : Nodes) (session : ℕ) (s : List ℕ) (point : Dlsn) (version : ℕ) (r : OneAnswer × Nodes) → NoSlash s
     → outcome_of t session (Set (path_of (Cut s)) (cut_node point) (Some version)) ≡ Ok r → CutSet t r.1 s point version (answer.One r.0)
 cut_set t session s point version r name e =
     let d = set_at t session (Cut s) (cut_node point) (Some version) name r e in
-    record { cut = set_by nothing_changed d nothing_changed name refl refl; told = ap (λ (a : OneAnswer). answer.One a) (set_told t session (path_of (Cut s)) (cut_node point) (Some version) r e d.old d.was ∙ ap (λ (v : ℕ). Version (v + 1)) d.fitting); others = put_before d.puts nothing_changed }
+    record {
+      cut = set_by nothing_changed d nothing_changed name refl refl;
+      told = ap (λ (a : OneAnswer). answer.One a)
+          (set_told t session (path_of (Cut s)) (cut_node point) (Some version) r e d.old d.was ∙ ap (λ (v : ℕ). Version (v + 1)) d.fitting);
+      others = put_before d.puts nothing_changed;
+    }

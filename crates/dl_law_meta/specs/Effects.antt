@@ -16,7 +16,10 @@ use Rattle.dl_formats.specs.Keys.{Key, Streams, Ledgers, Ledger, Stream, MaxSeq,
 use Rattle.dl_formats.specs.NodeBytes.{segment_bytes, IsMaxSeq}
 use Rattle.dl_tree.specs.declared.node.Node.{Node}
 use Rattle.dl_tree.specs.Trees.{Nodes, child_names, after_request}
-use Rattle.dl_rules_stream.specs.Requests.{Request, MakeStream, MakeAgain, RemoveStream, MakeMember, ListMembers, LeaveLock, Look, MakeLedger, TakeLedger, StartSegment, GetSegment, GetLedger, MarkLedger, CloseLedger, CompleteSegment, ListCut, LookCut, SetCut, DropSegment, Completion, Beginning, ledger_node, maxseq_node, cut_node, alloc_node, completed_node, segment_key, op_of}
+use Rattle.dl_rules_stream.specs.Requests.{Request, MakeStream, MakeAgain, RemoveStream, MakeMember, ListMembers, LeaveLock, Look, MakeLedger, TakeLedger}
+use Rattle.dl_rules_stream.specs.Requests.{StartSegment, GetSegment, GetLedger, MarkLedger, CloseLedger, CompleteSegment, ListCut, LookCut, SetCut}
+use Rattle.dl_rules_stream.specs.Requests.{DropSegment, Completion, Beginning, ledger_node, maxseq_node, cut_node, alloc_node, completed_node, segment_key}
+use Rattle.dl_rules_stream.specs.Requests.{op_of}
 use Rattle.dl_law_meta.specs.Keyed.{node, OthersStay, lasting, ephemeral, IsThere, IsParent, IsNew, IsSet, IsCounted, IsGone}
 
 -- the answer to a request of a session

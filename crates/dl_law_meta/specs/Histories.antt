@@ -1,5 +1,6 @@
 -- Histories: the items of the metadata node, the newest first, whose requests are those of the clients.
-use Rattle.std.specs.Prelude.{◌≡◌, ◌≢◌, ℕ, ◌+◌, Bool, false, ◌&&◌, ◌==◌, if◌then◌else◌, List, [], ◌∷◌, Option, Some, None, is_none, is_some, Result, Ok, Err, filter, length}
+use Rattle.std.specs.Prelude.{◌≡◌, ◌≢◌, ℕ, ◌+◌, Bool, false, ◌&&◌, ◌==◌, if◌then◌else◌, List, [], ◌∷◌, Option, Some, None, is_none, is_some, Result, Ok}
+use Rattle.std.specs.Prelude.{Err, filter, length}
 use Rattle.dl_types.specs.declared.meta_op.MetaOp.{MetaOp}
 use Rattle.dl_session.specs.declared.admit.Admit.TheVariants.{Run}
 use Rattle.dl_formats.specs.declared.ledger.LedgerState.{LedgerState}
@@ -11,7 +12,9 @@ use Rattle.dl_tree.specs.declared.node.Node.{Node}
 use Rattle.dl_tree.specs.Trees.{Nodes}
 use Rattle.dl_rules_nodes.specs.Items.{MetaItem, Setup, Connect, Expire, Ask}
 use Rattle.dl_rules_nodes.specs.Metadata.{meta_of, admit_of}
-use Rattle.dl_rules_stream.specs.Requests.{Request, MakeStream, MakeAgain, RemoveStream, MakeMember, ListMembers, LeaveLock, Look, MakeLedger, TakeLedger, StartSegment, GetSegment, GetLedger, MarkLedger, CloseLedger, CompleteSegment, ListCut, LookCut, SetCut, DropSegment, op_of}
+use Rattle.dl_rules_stream.specs.Requests.{Request, MakeStream, MakeAgain, RemoveStream, MakeMember, ListMembers, LeaveLock, Look, MakeLedger, TakeLedger}
+use Rattle.dl_rules_stream.specs.Requests.{StartSegment, GetSegment, GetLedger, MarkLedger, CloseLedger, CompleteSegment, ListCut, LookCut, SetCut}
+use Rattle.dl_rules_stream.specs.Requests.{DropSegment, op_of}
 use Rattle.dl_rules_stream.specs.Listings.{ledger_of}
 use Rattle.dl_law_meta.specs.Keyed.{node}
 use Rattle.dl_law_meta.specs.Effects.{IsInForm}

@@ -15,7 +15,8 @@ use Rattle.dl_rules_nodes.specs.Metadata.{first_tree}
 use Rattle.dl_rules_stream.specs.Requests.{Request}
 use Rattle.dl_law_meta.specs.Keyed.{node, lasting, ephemeral, with_count}
 use Rattle.dl_law_meta.specs.Effects.{answer_to, tree_after, IsInForm, LeavesBy}
-use Rattle.dl_law_meta.specs.Histories.{tree_of, node_after, WhileNamed, NamesLedger, AreRequests, AreSupposed, AreAdmitted, state_in, Asker, maker, starter, times_run}
+use Rattle.dl_law_meta.specs.Histories.{tree_of, node_after, WhileNamed, NamesLedger, AreRequests, AreSupposed, AreAdmitted, state_in, Asker, maker}
+use Rattle.dl_law_meta.specs.Histories.{starter, times_run}
 
 -- ---- one request
 

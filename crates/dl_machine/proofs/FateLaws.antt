@@ -1,5 +1,6 @@
 -- Without failures the atomic steps are those of the rules.
-use Rattle.std.proofs.Common.{◌≡◌, ℕ, zero, suc, ◌+◌, Bool, true, false, cond, ◌&&◌, List, [], ◌∷◌, ◌++◌, length, Option, Some, None, refl, sym, ap, ◌∙◌, slice_get}
+use Rattle.std.proofs.Common.{◌≡◌, ℕ, zero, suc, ◌+◌, Bool, true, false, cond, ◌&&◌, List, [], ◌∷◌, ◌++◌, length, Option, Some, None, refl, sym, ap, ◌∙◌}
+use Rattle.std.proofs.Common.{slice_get}
 use Rattle.std.proofs.lemmas.Bool.{and_from}
 use Rattle.dl_types.specs.declared.address.Address.{Address}
 use Rattle.dl_types.specs.declared.address.Address.TheVariants.{Client, Bookie as AtBookie, Meta as AtMeta}
@@ -40,10 +41,12 @@ well_settling (suc n) i s = well_turn n i s (turn s) (well_settling n)
 
 -- ---- where no device failed
 
+-- of two tests that both hold the first one does
 both_left : (x y : Bool) → (x && y) ≡ true → x ≡ true
 both_left true y e = refl
 both_left false y e = absurd cc
 
+-- and the second one
 both_right : (x y : Bool) → (x && y) ≡ true → y ≡ true
 both_right true y e = e
 both_right false y e = absurd cc
@@ -54,6 +57,7 @@ no_look_at s l (AtBookie b) = refl
 no_look_at s l (Client c) = refl
 no_look_at s l AtMeta = refl
 
+-- where no device failed, no letter is answered by a look that may fail
 no_look : (s : State) (l : Option Letter) → may_look none_failed s l ≡ false
 no_look s None = refl
 no_look s (Some l) = no_look_at s l l.to
@@ -103,6 +107,7 @@ fit_busy : (luck : ℕ → Luck) (s : State) (line : ℕ) (x : Step) → busy_fi
 fit_busy luck s line step.Settle e = fit_settling luck turn_limit 0 s e
 fit_busy luck s line x e = fit_steps luck 0 s (plain_atoms s line x) e ∙ sym (well_steps 0 (plain_atoms s line x))
 
+-- a line that changes nothing is the same whatever the lucks are
 fit_unless : (luck : ℕ → Luck) (s : State) (line : ℕ) (x : Step) (idle : Bool) → cond idle true (busy_fit none_failed luck s line x) ≡ true
     → cond idle (Shows event.Nothing ∷ []) (busy_atoms luck s line x) ≡ cond idle (Shows event.Nothing ∷ []) (busy_atoms well s line x)
 fit_unless luck s line x true e = refl
@@ -115,21 +120,25 @@ fit_line luck s line x e = fit_unless luck s line x (is_idle s x) e
 
 -- ---- that no device fails may always be
 
+-- that no device fails may always be, for atomic steps in a row
 well_fit : (failed : ℕ → Bool) (i : ℕ) (s : State) (xs : List Atom) → are_fit failed well i s xs ≡ true
 unfolding are_fit may_have
 well_fit failed i s [] = refl
 well_fit failed i s (a ∷ more) = well_fit failed (suc i) (after s (steps_by_luck Well a)) more
 
+-- the same of a turn of settling and of the rest
 well_turn_fit : (failed : ℕ → Bool) (n i : ℕ) (s : State) (xs : List Atom) → ((j : ℕ) (t : State) → settles_fit failed well n j t ≡ true)
     → fit_on failed well s xs i (settles_fit failed well n) ≡ true
 well_turn_fit failed n i s [] later = refl
 well_turn_fit failed n i s (a ∷ more) later = and_from _ _ (well_fit failed i s (a ∷ more)) (later _ _)
 
+-- the same of a settling
 well_settling_fit : (failed : ℕ → Bool) (n i : ℕ) (s : State) → settles_fit failed well n i s ≡ true
 unfolding settles_fit
 well_settling_fit failed zero i s = refl
 well_settling_fit failed (suc n) i s = well_turn_fit failed n i s (turn s) (well_settling_fit failed n)
 
+-- the same of a line that changes something
 well_busy_fit : (failed : ℕ → Bool) (s : State) (line : ℕ) (x : Step) → busy_fit failed well s line x ≡ true
 well_busy_fit failed s line step.Settle = well_settling_fit failed turn_limit 0 s
 well_busy_fit failed s line x = well_fit failed 0 s (plain_atoms s line x)
@@ -139,9 +148,11 @@ true_both : (t x : Bool) → x ≡ true → cond t true x ≡ true
 true_both true x e = refl
 true_both false x e = e
 
+-- the same of every line
 well_line_fit : (failed : ℕ → Bool) (s : State) (line : ℕ) (x : Step) → is_fit failed well s line x ≡ true
 unfolding is_fit
 well_line_fit failed s line x = true_both (is_idle s x) (busy_fit failed well s line x) (well_busy_fit failed s line x)
 
+-- failures aside, atomic steps are those of the rules
 pub failures_aside : FailuresAside
 failures_aside = record { steps = well_steps; settling = well_settling; lines = fit_line; fit = well_line_fit }

@@ -4,3 +4,5 @@ pub mod Movements
 pub mod StayLaws
 pub mod Settlings
 pub mod SessionLaws
+pub mod StateRanges
+pub mod RangeLaws

@@ -1,6 +1,7 @@
 -- What the parts of an atomic step leave as it was: letters, what was delivered, the items of the metadata node, and the durable
 -- items of storage nodes.
-use Rattle.std.proofs.Common.{◌≡◌, ℕ, ◌+◌, Bool, true, false, cond, ◌==◌, List, [], ◌∷◌, ◌++◌, Option, Some, None, refl, sym, ap, ◌∙◌, subst, inl, inr, eqb-true, append-nil}
+use Rattle.std.proofs.Common.{◌≡◌, ℕ, ◌+◌, Bool, true, false, cond, ◌==◌, List, [], ◌∷◌, ◌++◌, Option, Some, None, refl, sym, ap, ◌∙◌, subst, inl, inr}
+use Rattle.std.proofs.Common.{eqb-true, append-nil}
 use Rattle.std.proofs.lemmas.List.{append_assoc}
 use Rattle.dl_types.specs.declared.address.Address.{Address}
 use Rattle.dl_types.specs.declared.address.Address.TheVariants.{Client, Bookie as AtBookie, Meta as AtMeta}
@@ -20,16 +21,21 @@ use Rattle.dl_rules_nodes.specs.Metadata.{answer_of, reply_of}
 use Rattle.dl_rules_nodes.proofs.BookieLaws.{durable_items_only_grow}
 use Rattle.dl_rules_client.specs.Acts.{Input, Came, Acts, SentEntry, Confirmation}
 use Rattle.dl_rules_client.specs.Clients.{acts_of}
-use Rattle.dl_machine.specs.States.{State, Node, Mode, Up, Down, Lost, Joined, Outcome, with_value, with_node, with_client, with_letters, with_meta_item, is_up, args_of, quietly}
+use Rattle.dl_machine.specs.States.{State, Node, Mode, Up, Down, Lost, Joined, Outcome, with_value, with_node, with_client, with_letters, with_meta_item, is_up}
+use Rattle.dl_machine.specs.States.{args_of, quietly}
 use Rattle.dl_machine.specs.Growth.{Closing, with_sent, confirms, closes, closing_with, shows_op, shows_ops, shows_run, is_done, ops_of}
-use Rattle.dl_machine.specs.Atoms.{MetaRequest, meta_in, request_in, admit_in, acts_on, client_takes, with_answer, takes_row, runs, admits, reply_msg, meta_takes, takes_letter, commits, stopped_node, killed_node, risen_node, swapped_node, loosened_node, lost_node, faints_at, without_meta, stops_run}
+use Rattle.dl_machine.specs.Atoms.{MetaRequest, meta_in, request_in, admit_in, acts_on, client_takes, with_answer, takes_row, runs, admits, reply_msg}
+use Rattle.dl_machine.specs.Atoms.{meta_takes, takes_letter, commits, stopped_node, killed_node, risen_node, swapped_node, loosened_node, lost_node}
+use Rattle.dl_machine.specs.Atoms.{faints_at, without_meta, stops_run}
 use Rattle.dl_machine.specs.Laws.{Extends, OneItemMore, IsSettled, UpIsSettled}
 
 -- ---- lists and choices
 
+-- a list begins with itself
 pub extends_same : {A : Type 0} (xs : List A) → Extends xs xs
 extends_same xs = record { more = []; same = sym (append-nil xs) }
 
+-- a list with others behind it begins with it
 pub extends_by : {A : Type 0} (xs more : List A) → Extends xs (xs ++ more)
 extends_by xs more = record { more = more; same = refl }
 
@@ -53,6 +59,7 @@ pub record NodeKeeps (n m : Node) : Type 0 where
   pub grows : IsSettled n → Extends (durable n.bookie) (durable m.bookie)
   pub settled : UpIsSettled n → UpIsSettled m
 
+-- a storage node that stays as it is
 pub node_same : (n : Node) → NodeKeeps n n
 node_same n = record { grows = λ e. extends_same _; settled = λ h. h }
 
@@ -74,12 +81,14 @@ stopped_grows : (k : Bookie) (kept : Bool) → Extends (durable k) (durable (aft
 stopped_grows k true = record { more = queued_items k; same = (durable_items_only_grow k).stop true }
 stopped_grows k false = extends_same _
 
+-- a storage node that goes down inside a commit
 pub node_stopped : (n : Node) (kept : Bool) → NodeKeeps n (stopped_node n kept)
 node_stopped n kept =
     cond_both (NodeKeeps n) (is_up n.mode) _ n
     (record { grows = λ e. stopped_grows n.bookie kept; settled = λ h e. absurd cc })
     (node_same n)
 
+-- a storage node that goes down
 pub node_killed : (n : Node) → NodeKeeps n (killed_node n)
 node_killed n =
     cond_both (NodeKeeps n) (is_up n.mode) _ n
@@ -97,12 +106,14 @@ node_swapped : (n : Node) (other : Option Bookie) → n.other ≡ other → Node
 node_swapped n None w = node_same n
 node_swapped n (Some b) w = record { grows = λ e. absurd cc; settled = λ h e. absurd (let f = h e in cc) }
 
+-- a storage node whose load fails
 pub node_loosened : (n : Node) (m : Mode) (other : Bool) → NodeKeeps n (loosened_node n m other)
 node_loosened n Up other = node_same n
 node_loosened n Down true = node_swapped n n.other refl
 node_loosened n Down false = node_same n
 node_loosened n Lost other = node_same n
 
+-- a storage node that loses its disk
 pub node_lost : (n : Node) → NodeKeeps n (lost_node n)
 node_lost n = record { grows = λ e. stopped_grows n.bookie false; settled = λ h e. absurd cc }
 
@@ -115,6 +126,7 @@ pub record Moves (s t : State) : Type 0 where
   pub items : OneItemMore s.meta.items t.meta.items
   pub nodes : (b : ℕ) → NodeKeeps (s.nodes b) (t.nodes b)
 
+-- a state that stays as it is
 pub moves_same : (s : State) → Moves s s
 moves_same s = record { letters = extends_same _; delivered = refl; items = inl refl; nodes = λ b. node_same (s.nodes b) }
 
@@ -130,6 +142,7 @@ letters_more s t letters m = record {
   nodes = m.nodes;
 }
 
+-- a letter is answered
 answer_more : (s t : State) (l : Letter) (reply : Option Msg) → Moves s t → Moves s (with_answer t l reply)
 answer_more s t l None m = m
 answer_more s t l (Some reply) m = letters_more s t _ m
@@ -149,36 +162,44 @@ node_moves s b n k = record {
 abbrev pub ButLedgers : State → State → Type 0
 ButLedgers s t = t ≡ record s { ledgers = t.ledgers }
 
+-- two changes of ledgers alone are one
 pub but_then : (s t u : State) → ButLedgers s t → ButLedgers t u → ButLedgers s u
 but_then s t u e f = f ∙ ap (λ (v : State). record v { ledgers = u.ledgers }) e
 
+-- a step, and then a change of ledgers alone
 pub moves_but : (s t u : State) → Moves s t → ButLedgers t u → Moves s u
 moves_but s t u m e =
     subst (λ v. Moves s v) (sym e) (record { letters = m.letters; delivered = m.delivered; items = m.items; nodes = m.nodes })
 
+-- an entry that was sent changes ledgers alone
 pub but_sent : (s : State) (x : Option SentEntry) → ButLedgers s (with_sent s x)
 but_sent s None = refl
 but_sent s (Some x) = refl
 
+-- so does what a writer confirms
 pub but_confirms : (s : State) (x : Option Confirmation) → ButLedgers s (confirms s x).state
 but_confirms s None = refl
 but_confirms s (Some x) = refl
 
+-- so does a closing
 but_closes : (s : State) (x : Option Closing) → ButLedgers s (closes s x).state
 but_closes s None = refl
 but_closes s (Some x) = refl
 
+-- so do operations that were done
 but_ops : (t : Nodes) (ops : List OneOp) (s : State) → ButLedgers s (shows_ops t ops s).state
 but_ops t [] s = refl
 but_ops t (x ∷ xs) s =
     let now : State = (shows_op t x s).state in
     but_then s now (shows_ops t xs now).state (but_closes s (closing_with t x)) (but_ops t xs now)
 
+-- so does a request that ran
 pub but_run : (t : Nodes) (op : MetaOp) (a : MetaAnswer) (s : State) → ButLedgers s (shows_run t op a s).state
 but_run t op a s = cond_both (λ (o : Outcome). ButLedgers s o.state) (is_done a) (shows_ops t (ops_of op) s) (quietly s) (but_ops t (ops_of op) s) refl
 
 -- ---- clients
 
+-- a client does something
 acts_move : (s : State) (c : ℕ) (me : Joined) (x : Input) (acts : Acts) → Moves s (acts_on s c me x acts).state
 acts_move s c me x acts =
     let process : Option Joined = Some (record me { view = x ∷ me.view }) in
@@ -188,6 +209,7 @@ acts_move s c me x acts =
     (moves_but s told (with_sent told acts.sent) base (but_sent told acts.sent))
     (but_confirms (with_sent told acts.sent) acts.confirmed)
 
+-- a client takes something
 pub client_moves : (s : State) (c : ℕ) (conf : Option Conf) (me : Option Joined) (x : Input) → Moves s (client_takes s c conf me x).state
 client_moves s c (Some conf) (Some me) x = acts_move s c me x (acts_of (args_of conf c me) me.view x)
 client_moves s c (Some conf) None x = moves_same s
@@ -195,6 +217,7 @@ client_moves s c None me x = moves_same s
 
 -- ---- nodes
 
+-- a storage node takes a message by its row
 row_moves : (s : State) (l : Letter) (b c : ℕ) (row : Taken) → Moves s (takes_row s l b c row)
 row_moves s l b c row =
     answer_more s _ l (answer_now (s.nodes b).bookie l.msg row) (node_moves s b _ (node_taken (s.nodes b) c l.session row))
@@ -216,11 +239,13 @@ runs_moves s r =
     let asked : State = with_meta_item s ask in
     moves_but s asked _ (item_moves s asked ask refl refl refl refl) (but_run (meta_in s).tree r.op (answer_of (meta_in s) r.session r.op) asked)
 
+-- a request is admitted
 admits_moves : (s : State) (r : MetaRequest) (a : Admit) → Moves s (admits s r a).state
 admits_moves s r admit.Run = runs_moves s r
 admits_moves s r admit.Old = moves_same s
 admits_moves s r admit.Expired = moves_same s
 
+-- the metadata node takes a letter
 meta_moves : (s : State) (l : Letter) (r : Option MetaRequest) → Moves s (meta_takes s l r).state
 meta_moves s l None = moves_same s
 meta_moves s l (Some r) =

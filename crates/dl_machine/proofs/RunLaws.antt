@@ -48,5 +48,6 @@ run_shows s line (x ∷ xs) =
     ∙ ap (λ (es : List Event). events s now ++ es) (run_shows (after s now) (suc line) xs)
     ∙ sym (events-append s now (run_atoms (after s now) (suc line) xs))
 
+-- runs are folds of atomic steps, which is the law
 pub runs_are_folds : RunsAreFolds
 runs_are_folds = record { states = after-append; shown = events-append; last = run_ends; transcript = run_shows }

@@ -1,5 +1,6 @@
 -- Settling ends: each delivery marks a letter that was not marked, and between two rounds of commits lies a delivery.
-use Rattle.std.proofs.Common.{◌≡◌, ℕ, zero, suc, ◌+◌, ◌*◌, ◌<◌, ◌≤◌, ◌⊎◌, Bool, true, false, cond, not, ◌&&◌, ◌==◌, List, [], ◌∷◌, ◌++◌, length, map, Option, Some, None, refl, sym, ap, ◌∙◌, subst, inl, inr, arith, slice_get, eq-eqb}
+use Rattle.std.proofs.Common.{◌≡◌, ℕ, zero, suc, ◌+◌, ◌*◌, ◌<◌, ◌≤◌, ◌⊎◌, Bool, true, false, cond, not, ◌&&◌, ◌==◌, List, [], ◌∷◌, ◌++◌, length, map}
+use Rattle.std.proofs.Common.{Option, Some, None, refl, sym, ap, ◌∙◌, subst, inl, inr, arith, slice_get, eq-eqb}
 use Rattle.std.specs.List.{AllByRecursion}
 use Rattle.std.proofs.lemmas.Bool.{cases_eq, ne_eqb}
 use Rattle.std.proofs.lemmas.List.{append-nil}
@@ -30,6 +31,7 @@ unmarked : (ℕ → Bool) → ℕ → ℕ
 unmarked f zero = 0
 unmarked f (suc n) = one_unless (f n) + unmarked f n
 
+-- no more letters are unmarked than there are
 unmarked_at_most : (f : ℕ → Bool) (n : ℕ) → unmarked f n ≤ n
 unfolding unmarked
 unmarked_at_most f zero = omega arith
@@ -78,6 +80,7 @@ record IsDue (s : State) (letters : List Letter) (first place : ℕ) : Type 0 wh
   unseen : s.delivered place ≡ false
   takes : can_take s letter letter.to ≡ true
 
+-- a letter that is due among the others is due among all
 due_later : (s : State) (l : Letter) (ls : List Letter) (first place : ℕ) → IsDue s ls (suc first) place → IsDue s (l ∷ ls) first place
 due_later s l ls first place d = record {
   at = suc d.at;
@@ -88,6 +91,7 @@ due_later s l ls first place d = record {
   takes = d.takes;
 }
 
+-- of two tests of which the first doesn't hold and the second does
 not_both : (x y : Bool) → (not x && y) ≡ true → (x ≡ false) × (y ≡ true)
 not_both true y e = absurd cc
 not_both false y e = (refl, e)
@@ -115,6 +119,7 @@ next_is_due s first (l ∷ ls) place e = go (not (s.delivered first) && can_take
 
 -- ---- a delivery
 
+-- a letter that can be taken is delivered
 deliver_moves : (s : State) (place : ℕ) (l : Letter) (found : Option Letter) → found ≡ Some l → can_take s l l.to ≡ true
     → Moves (marks s place) (delivers s place found).state
 deliver_moves s place l found e takes =
@@ -122,6 +127,7 @@ deliver_moves s place l found e takes =
     (subst (λ (t : Bool). Moves (marks s place) (cond t (takes_letter (marks s place) l l.to l.from) (quietly s)).state) (sym takes)
     (taken_moves (marks s place) l l.to l.from))
 
+-- the same of a storage node that goes down on it
 faint_moves : (s : State) (place : ℕ) (l : Letter) (found : Option Letter) → found ≡ Some l → can_take s l l.to ≡ true
     → Moves (marks s place) (faints s place found)
 faint_moves s place l found e takes =
@@ -150,9 +156,11 @@ record Empties (s t : State) : Type 0 where
   same_marks : t.delivered ≡ s.delivered
   idle : (j : ℕ) → has_queue (s.nodes j) ≡ false → has_queue (t.nodes j) ≡ false
 
+-- a state empties as itself
 empties_same : (s : State) → Empties s s
 empties_same s = record { conf = refl; same_marks = refl; idle = λ j e. e }
 
+-- two steps that empty queues do so one behind the other
 empties_then : (s t u : State) → Empties s t → Empties t u → Empties s u
 empties_then s t u g h = record { conf = h.conf ∙ g.conf; same_marks = h.same_marks ∙ g.same_marks; idle = λ j e. h.idle j (g.idle j e) }
 
@@ -160,6 +168,7 @@ empties_then s t u g h = record { conf = h.conf ∙ g.conf; same_marks = h.same_
 put_idle : (nodes : ℕ → Node) (b : ℕ) (n : Node) → has_queue n ≡ false → (j : ℕ) → has_queue (nodes j) ≡ false → has_queue (with_value nodes b n j) ≡ false
 put_idle nodes b n e = put_each nodes b n (λ j m. has_queue (nodes j) ≡ false → has_queue m ≡ false) (λ h. e) (λ j h. h)
 
+-- a node without a queue that is put has none
 put_here : (nodes : ℕ → Node) (b : ℕ) (n : Node) → has_queue n ≡ false → has_queue (with_value nodes b n b) ≡ false
 put_here nodes b n e = subst (λ (t : Bool). has_queue (cond t n (nodes b)) ≡ false) (sym (eq-eqb b b refl)) e
 
@@ -168,14 +177,17 @@ record EmptiesAt (b : ℕ) (s t : State) : Type 0 where
   all : Empties s t
   here : has_queue (t.nodes b) ≡ false
 
+-- a node without a queue has none, whether it is up or not
 no_queue_after : (t : Bool) → (t && false) ≡ false
 no_queue_after true = refl
 no_queue_after false = refl
 
+-- a node has no queue behind a commit
 committed_idle : (n : Node) → has_queue (record n { bookie = after_commit n.bookie }) ≡ false
 unfolding after_commit
 committed_idle n = no_queue_after (is_up n.mode)
 
+-- nor where it was stopped
 stopped_idle : (n : Node) (kept : Bool) → has_queue (stopped_node n kept) ≡ false
 stopped_idle n kept = go (is_up n.mode) refl
   where
@@ -184,6 +196,7 @@ stopped_idle n kept = go (is_up n.mode) refl
     go true e = refl
     go false e = ap (λ (u : Bool). u && not (length n.bookie.queue == 0)) e
 
+-- nor where it went down
 killed_idle : (n : Node) → has_queue (killed_node n) ≡ false
 killed_idle n = go (is_up n.mode) refl
   where
@@ -191,18 +204,21 @@ killed_idle n = go (is_up n.mode) refl
     go true e = refl
     go false e = ap (λ (u : Bool). u && not (length n.bookie.queue == 0)) e
 
+-- a commit empties one queue, and no other fills
 commit_empties : (s : State) (b : ℕ) → EmptiesAt b s (commits s b)
 commit_empties s b = record {
   all = record { conf = refl; same_marks = refl; idle = put_idle s.nodes b _ (committed_idle (s.nodes b)) };
   here = put_here s.nodes b _ (committed_idle (s.nodes b));
 }
 
+-- so does a node without a queue in place of another
 node_empties : (s : State) (b : ℕ) (n : Node) → has_queue n ≡ false → EmptiesAt b s (with_node s b n)
 node_empties s b n e = record {
   all = record { conf = refl; same_marks = refl; idle = put_idle s.nodes b n e };
   here = put_here s.nodes b n e;
 }
 
+-- so does a commit behind which the node goes down
 commit_and_kill : (s : State) (b : ℕ) → EmptiesAt b s (with_node (commits s b) b (killed_node ((commits s b).nodes b)))
 commit_and_kill s b =
     let next = node_empties (commits s b) b (killed_node ((commits s b).nodes b)) (killed_idle ((commits s b).nodes b)) in
@@ -221,6 +237,7 @@ record EmptiesAll (bookies : List ℕ) (s t : State) : Type 0 where
   all : Empties s t
   each : AllByRecursion (λ b. has_queue (t.nodes b) ≡ false) bookies
 
+-- so do the commits of a round, whatever the devices do
 round_empties : (luck : ℕ → Luck) (i : ℕ) (s : State) (bookies : List ℕ) → EmptiesAll bookies s (after s (with_luck luck i (map Commit bookies)))
 unfolding with_luck after
 round_empties luck i s [] = record { all = empties_same s; each = tt }
@@ -263,10 +280,12 @@ one_if_any (x ∷ xs) = 1
 measure : ℕ → State → ℕ
 measure limit s = 2 * unmarked s.delivered limit + one_if_any (nodes_due s (bookies_of s.conf))
 
+-- what counts for one counts for one at most
 one_at_most : (xs : List ℕ) → one_if_any xs ≤ 1
 one_at_most [] = omega arith
 one_at_most (x ∷ xs) = omega arith
 
+-- the measure of a state is at most that of the limit
 measure_at_most : (limit : ℕ) (s : State) → measure limit s ≤ 2 * limit + 1
 unfolding measure
 measure_at_most limit s = omega (arith, unmarked_at_most s.delivered limit, one_at_most (nodes_due s (bookies_of s.conf)))
@@ -313,6 +332,7 @@ round_falls luck i limit s bookies b more e some =
     (ap (λ (c : Option Conf). nodes_due t (bookies_of c)) done.all.conf ∙ none_due s t (bookies_of s.conf) done.all.idle each)
     done.all.same_marks
 
+-- commits of which there is a first one are those of some nodes
 commits_some : (bookies : List ℕ) (a : Atom) (more : List Atom) → map Commit bookies ≡ a ∷ more → (b : ℕ) × ((rest : List ℕ) × (bookies ≡ b ∷ rest))
 commits_some [] a more e = absurd cc
 commits_some (b ∷ rest) a more e = (b, (rest, refl))
@@ -325,6 +345,7 @@ turn_by_falls luck i limit s None a more found e few =
     let some = commits_some (nodes_due s (bookies_of s.conf)) a more e in
     round_falls luck i limit s (nodes_due s (bookies_of s.conf)) some.0 some.1.0 refl some.1.1
 
+-- a turn that has a step makes the measure fall
 turn_falls : (luck : ℕ → Luck) (i limit : ℕ) (s : State) (a : Atom) (more : List Atom) → turn s ≡ a ∷ more → length s.letters ≤ limit
     → measure limit (after s (with_luck luck i (turn s))) < measure limit s
 unfolding turn
@@ -358,6 +379,7 @@ turn_quiet luck n i limit s (a ∷ more) e later low few =
     let few_now : length s.letters ≤ limit = omega (arith, letters_grow s now, letters_grow t rest, few_then) in
     subst (λ u. turn u ≡ []) (sym same) (later j t (omega (arith, turn_falls luck i limit s a more e few_now, low)) few_then)
 
+-- behind as many turns as the measure says no turn is left
 quiet_by : (luck : ℕ → Luck) (n i limit : ℕ) (s : State) → measure limit s ≤ n → length (settled_by luck n i s).letters ≤ limit
     → turn (settled_by luck n i s) ≡ []
 unfolding settles after
@@ -369,9 +391,11 @@ enough_turns : (m : ℕ) → m ≤ 2 * most_messages + 1 → m ≤ turn_limit
 unfolding turn_limit
 enough_turns m h = omega (arith, h)
 
+-- a turn without a step is a quiet state's
 no_turn_is_quiet : (xs : List Atom) → xs ≡ [] → (length xs == 0) ≡ true
 no_turn_is_quiet xs e = ap (λ (ys : List Atom). length ys == 0) e
 
+-- a settling ends quiet, which is the law
 pub settling_ends_quiet : SettlingEndsQuiet
 settling_ends_quiet luck s few =
     no_turn_is_quiet (turn (state_after_settling luck s))

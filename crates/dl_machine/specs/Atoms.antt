@@ -21,9 +21,11 @@ use Rattle.dl_transcript.specs.declared.event.Event.{Event}
 use Rattle.dl_transcript.specs.declared.event.Event.TheVariants as event
 use Rattle.dl_rules_client.specs.Acts.{Input, Line, Came, Acts}
 use Rattle.dl_rules_client.specs.Clients.{acts_of}
-use Rattle.dl_machine.specs.States.{State, Node, Mode, Up, Down, Lost, Joined, Outcome, with_value, with_node, with_bookie, with_client, with_letters, with_meta_item, marks, is_up, can_take, args_of, quietly, then_shows}
+use Rattle.dl_machine.specs.States.{State, Node, Mode, Up, Down, Lost, Joined, Outcome, with_value, with_node, with_bookie, with_client, with_letters}
+use Rattle.dl_machine.specs.States.{with_meta_item, marks, is_up, can_take, args_of, quietly, then_shows}
 use Rattle.dl_machine.specs.Growth.{with_sent, confirms, shows_run}
 
+-- what happens at once, or not at all
 pub data Atom : Type 0 where
   -- the world is set up
   SetUp : (conf : Conf) → Atom

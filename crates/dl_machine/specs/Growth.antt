@@ -1,6 +1,7 @@
 -- How streams grow: the rows of entries that are confirmed, or that a closed ledger keeps, each once and in order; and what a
 -- request that ran shows at the metadata node.
-use Rattle.std.specs.Prelude.{ℕ, ◌-◌, max, Bool, true, false, if◌then◌else◌, ◌==◌, List, [], ◌∷◌, ◌++◌, map, take, drop, flat_map, filter_map, Option, Some, None, Result, Ok, Err, bytes_eq}
+use Rattle.std.specs.Prelude.{ℕ, ◌-◌, max, Bool, true, false, if◌then◌else◌, ◌==◌, List, [], ◌∷◌, ◌++◌, map, take, drop, flat_map, filter_map, Option, Some}
+use Rattle.std.specs.Prelude.{None, Result, Ok, Err, bytes_eq}
 use Rattle.std.specs.FinMap.{get, keys}
 use Rattle.dl_types.specs.declared.meta_answer.MetaAnswer.{MetaAnswer}
 use Rattle.dl_types.specs.declared.meta_answer.MetaAnswer.TheVariants as answer

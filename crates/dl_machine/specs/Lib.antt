@@ -7,3 +7,4 @@ pub mod Fates
 pub mod Runs
 pub mod Replays
 pub mod Laws
+pub mod RangeLaws

@@ -12,7 +12,8 @@ use Rattle.dl_schedule.specs.declared.step.Step.{Step}
 use Rattle.dl_schedule.specs.declared.step.Step.TheVariants as step
 use Rattle.dl_machine.specs.declared.limits.TheConstants.{MOST_LINES, MOST_SCHEDULE, MOST_MESSAGES, MOST_MESSAGE_BYTES, MOST_TRANSCRIPT, MOST_CALLS}
 use Rattle.dl_machine.specs.States.{State, can_take}
-use Rattle.dl_machine.specs.Atoms.{Atom, SetUp, Join, Crash, End, Order, Deliver, Commit, Stop, StopMeta, Faint, Kill, KillMeta, Rise, RiseMeta, Loosen, Lose, Shows, MetaRequest, meta_in, request_in, atom}
+use Rattle.dl_machine.specs.Atoms.{Atom, SetUp, Join, Crash, End, Order, Deliver, Commit, Stop, StopMeta, Faint, Kill, KillMeta, Rise, RiseMeta, Loosen}
+use Rattle.dl_machine.specs.Atoms.{Lose, Shows, MetaRequest, meta_in, request_in, atom}
 
 -- the lines of a schedule
 abbrev pub most_lines : ℕ

@@ -1,5 +1,6 @@
 -- The lines of a schedule: which of them change nothing, and the atomic steps of each of the others.
-use Rattle.std.specs.Prelude.{ℕ, zero, suc, ◌-◌, Bool, true, false, if◌then◌else◌, not, ◌&&◌, ◌||◌, ◌==◌, nat_lt, nat_le, List, [], ◌∷◌, length, map, Option, Some, None, is_some, is_none, slice_get}
+use Rattle.std.specs.Prelude.{ℕ, zero, suc, ◌-◌, Bool, true, false, if◌then◌else◌, not, ◌&&◌, ◌||◌, ◌==◌, nat_lt, nat_le, List, [], ◌∷◌, length, map}
+use Rattle.std.specs.Prelude.{Option, Some, None, is_some, is_none, slice_get}
 use Rattle.dl_types.specs.declared.address.Address.{Address}
 use Rattle.dl_types.specs.declared.address.Address.TheVariants.{Client, Bookie as AtBookie, Meta as AtMeta}
 use Rattle.dl_msg.specs.declared.letter.Letter.{Letter}
@@ -15,7 +16,8 @@ use Rattle.dl_schedule.specs.declared.step.Step.TheVariants as step
 use Rattle.dl_transcript.specs.declared.event.Event.{Event}
 use Rattle.dl_transcript.specs.declared.event.Event.TheVariants as event
 use Rattle.dl_machine.specs.States.{State, Node, Joined, is_up, is_down, is_lost, can_take, bookies_of, args_of}
-use Rattle.dl_machine.specs.Atoms.{Atom, SetUp, Join, Crash, End, Order, Deliver, Commit, Stop, StopMeta, Kill, KillMeta, Rise, RiseMeta, Lose, Shows, MetaRequest, meta_in, request_in, admit_in}
+use Rattle.dl_machine.specs.Atoms.{Atom, SetUp, Join, Crash, End, Order, Deliver, Commit, Stop, StopMeta, Kill, KillMeta, Rise, RiseMeta, Lose, Shows}
+use Rattle.dl_machine.specs.Atoms.{MetaRequest, meta_in, request_in, admit_in}
 
 -- ---- links
 

@@ -7,7 +7,8 @@ use Rattle.dl_schedule.specs.StepReading.{parsed_line}
 use Rattle.dl_transcript.specs.Lines.{at_line, print_transcript}
 use Rattle.dl_machine.specs.States.{State, blank}
 use Rattle.dl_machine.specs.Atoms.{Atom}
-use Rattle.dl_machine.specs.Limits.{Traffic, no_traffic, with_traffic, letters_since, Past, past_where, first_past, past_in, most_lines, most_schedule, most_transcript}
+use Rattle.dl_machine.specs.Limits.{Traffic, no_traffic, with_traffic, letters_since, Past, past_where, first_past, past_in, most_lines, most_schedule}
+use Rattle.dl_machine.specs.Limits.{most_transcript}
 use Rattle.dl_machine.specs.Fates.{well}
 use Rattle.dl_machine.specs.Runs.{line_atoms, after, events}
 

@@ -1,8 +1,10 @@
 //! What holds of every run of the machine: laws on its definitions, with no code.
 
 ghost use Rattle.dl_machine.specs.Laws.{RunsAreFolds, FailuresAside, LettersStay, DurableItemsStay, SettlingEndsQuiet, SessionsAreGiven};
+ghost use Rattle.dl_machine.specs.RangeLaws.{EventsFitTheirLines};
 
-/// A run is the row of the atomic steps of its lines: it ends in their last state, and shows their events.
+/// A run is the row of the atomic steps of its lines: it ends in their last state, and shows their
+/// events.
 pub fn runs_are_folds()
     ensures { RunsAreFolds }
 {}
@@ -17,8 +19,8 @@ pub fn letters_stay()
     ensures { LettersStay }
 {}
 
-/// No atomic step takes back a durable item of a storage node, where it is known what its disk holds; and of each node that is
-/// up that is known.
+/// No atomic step takes back a durable item of a storage node, where it is known what its disk
+/// holds; and of each node that is up that is known.
 pub fn durable_items_only_grow()
     ensures { DurableItemsStay }
 {}
@@ -31,4 +33,11 @@ pub fn settling_ends_quiet()
 /// Each client that has joined is in a session that the metadata node gave.
 pub fn sessions_are_given()
     ensures { SessionsAreGiven }
+{}
+
+/// The values of each event of a run are such as its line takes, and so are the numbers of the
+/// lines, within the limits of a run and in the replay of every schedule. Values that come out of
+/// the metadata tree or out of stored entries are open: `FitsItsLine` says which.
+pub fn events_fit_their_lines()
+    ensures { EventsFitTheirLines }
 {}

@@ -4,3 +4,4 @@ pub mod Moves
 pub mod Writing
 pub mod Orders
 pub mod Clients
+pub mod EventRanges

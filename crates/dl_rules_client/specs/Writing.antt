@@ -1,7 +1,7 @@
 -- What a client does with its writer: records are taken and sent, a commit waits for its control entry, and a close for all that
 -- was sent.
-use Rattle.std.specs.Prelude.{ℕ, suc, ◌+◌, Bool, not, ◌&&◌, ◌==◌, nat_lt, if◌then◌else◌, List, [], ◌∷◌, ◌++◌, length, map, Option, Some, None}
-use Rattle.std.specs.Prelude.{is_none, option_map, Result, Ok, Err}
+use Rattle.std.specs.Prelude.{ℕ, suc, ◌+◌, Bool, not, ◌&&◌, ◌==◌, nat_lt, if◌then◌else◌, List, [], ◌∷◌, ◌++◌, length, map, Option, Some, None, is_none}
+use Rattle.std.specs.Prelude.{option_map, Result, Ok, Err}
 use Rattle.dl_types.specs.declared.refusal.Refusal.{Refusal}
 use Rattle.dl_types.specs.declared.refusal.Refusal.TheVariants as why
 use Rattle.dl_types.specs.declared.row.Row.{Row}
@@ -11,13 +11,13 @@ use Rattle.dl_transcript.specs.declared.event.Event.{Event}
 use Rattle.dl_transcript.specs.declared.event.Event.TheVariants as event
 use Rattle.dl_rules_stream.specs.Requests.{Completion}
 use Rattle.dl_rules_stream.specs.Closes.{CloseArgs, close_first}
-use Rattle.dl_rules_stream.specs.LogWriters.{LogCall, Appends, AppendsSet, Flushes, HearsFrom, LogNow, LogMove, LogState, HasCommitted, MayClose}
-use Rattle.dl_rules_stream.specs.LogWriters.{IsFenced, log_state, appends, appends_set, log_flushes, commits, closes, log_hears, sent_count}
-use Rattle.dl_rules_stream.specs.LogWriters.{confirmed_count, fenced_at, is_closing, has_parts, last_sent_entry}
+use Rattle.dl_rules_stream.specs.LogWriters.{LogCall, Appends, AppendsSet, Flushes, HearsFrom, LogNow, LogMove, LogState, HasCommitted, MayClose, IsFenced}
+use Rattle.dl_rules_stream.specs.LogWriters.{log_state, appends, appends_set, log_flushes, commits, closes, log_hears, sent_count, confirmed_count}
+use Rattle.dl_rules_stream.specs.LogWriters.{fenced_at, is_closing, has_parts, last_sent_entry}
 use Rattle.dl_rules_stream.specs.LogWriters as log
 use Rattle.dl_rules_client.specs.Acts.{ClientArgs, SentEntry, Confirmation, Acts, no_acts}
-use Rattle.dl_rules_client.specs.Views.{Doing, Commits, Confirms, Closes, Order, WriterView, ClientNow, ClientMove, stays, order_doing, log_now}
-use Rattle.dl_rules_client.specs.Views.{with_call, with_writer, next_origin}
+use Rattle.dl_rules_client.specs.Views.{Doing, Commits, Confirms, Closes, Order, WriterView, ClientNow, ClientMove, stays, order_doing, log_now, with_call}
+use Rattle.dl_rules_client.specs.Views.{with_writer, next_origin}
 use Rattle.dl_rules_client.specs.Moves.{told_letters, refusal_event, refuses, ends_with, with_order, waits, goes_on}
 
 -- ---- what a call of the writer shows

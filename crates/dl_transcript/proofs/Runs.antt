@@ -1,5 +1,6 @@
 -- Transcripts piece by piece.
-use Rattle.std.proofs.Common.{◌≡◌, ℕ, ◌+◌, ◌≤◌, Bool, true, false, cond, ◌&&◌, nat_le, List, [], ◌∷◌, ◌++◌, length, map, Some, None, sym, ap, ◌∙◌, le-leb, le_refl, arith, add-zero}
+use Rattle.std.proofs.Common.{◌≡◌, ℕ, ◌+◌, ◌≤◌, Bool, true, false, cond, ◌&&◌, nat_le, List, [], ◌∷◌, ◌++◌, length, map, Some, None, sym, ap, ◌∙◌, le-leb}
+use Rattle.std.proofs.Common.{le_refl, arith, add-zero}
 use Rattle.std.proofs.lemmas.Bool.{and_from}
 use Rattle.dl_transcript.specs.declared.event.Event.{Event}
 use Rattle.dl_transcript.specs.Legal.{History, keeps, sees, first_fault, history_after, last_line}
@@ -27,7 +28,8 @@ first_fault-append from n s (x ∷ xs) ys h = go (nat_le n x.0 && keeps s x.1) h
     go : (t : Bool) → cond t (first_fault (from + 1) x.0 (sees s x.1) xs) (Some from) ≡ None
         → (first_fault (from + 1) x.0 (sees s x.1) xs ≡ None
         → first_fault (from + 1) x.0 (sees s x.1) (xs ++ ys) ≡ first_fault ((from + 1) + length xs) (last_line x.0 xs) (history_after (sees s x.1) xs) ys)
-        → cond t (first_fault (from + 1) x.0 (sees s x.1) (xs ++ ys)) (Some from) ≡ first_fault (from + length (x ∷ xs)) (last_line x.0 xs) (history_after (sees s x.1) xs) ys
+        → cond t (first_fault (from + 1) x.0 (sees s x.1) (xs ++ ys)) (Some from)
+        ≡ first_fault (from + length (x ∷ xs)) (last_line x.0 xs) (history_after (sees s x.1) xs) ys
     go true h ih = ih h ∙ ap (λ k. first_fault k (last_line x.0 xs) (history_after (sees s x.1) xs) ys) place
     go false h ih = absurd cc
 
@@ -37,5 +39,6 @@ pub fault-line : (from n line : ℕ) (s t : History) (es : List Event) (later : 
 unfolding first_fault
 fault-line from n line s t [] later le none rest = rest from n le
 fault-line from n line s t (e ∷ es) later le (more k keep) rest =
-    ap (λ b. cond b (first_fault (from + 1) line (sees s e) (map (λ x. (line, x)) es ++ later)) (Some from)) (and_from (nat_le n line) (keeps s e) (le-leb n line le) k)
+    ap (λ b. cond b (first_fault (from + 1) line (sees s e) (map (λ x. (line, x)) es ++ later)) (Some from))
+    (and_from (nat_le n line) (keeps s e) (le-leb n line le) k)
     ∙ fault-line (from + 1) line line (sees s e) t es later (le_refl line) keep rest

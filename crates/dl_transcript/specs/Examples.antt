@@ -6,7 +6,8 @@ use Rattle.dl_types.specs.declared.refusal.Refusal.{Refusal}
 use Rattle.dl_types.specs.declared.refusal.Refusal.TheVariants as refusal
 use Rattle.dl_types.specs.Places.{place, first_place}
 use Rattle.dl_transcript.specs.declared.event.Event.{Event}
-use Rattle.dl_transcript.specs.declared.event.Event.TheVariants.{Took, Grow, Ack, Committed, Closed, Recovered, Point, OpenedAt, OpenedFrom, Reading, Rows, Refused}
+use Rattle.dl_transcript.specs.declared.event.Event.TheVariants.{Took, Grow, Ack, Committed, Closed, Recovered, Point, OpenedAt, OpenedFrom, Reading, Rows}
+use Rattle.dl_transcript.specs.declared.event.Event.TheVariants.{Refused}
 use Rattle.dl_transcript.specs.Lines.{at_line}
 use Rattle.dl_transcript.specs.Legal.{fault_of}
 

@@ -1,7 +1,8 @@
 -- When a transcript is legal: each stream is one list that grows, readers get its next rows without a gap, and each
 -- event keeps its rule. What was shown is folded into what the rules of later events ask for; an event without a rule
 -- leaves it. Each event has its own equation, so that a further event comes with its rule.
-use Rattle.std.specs.Prelude.{ℕ, ◌+◌, ◌-◌, Bool, true, false, if◌then◌else◌, not, ◌&&◌, ◌||◌, ◌==◌, nat_le, List, [], ◌∷◌, length, map, filter, drop, Option, Some, None, is_some, is_none, slice_get, bytes_eq}
+use Rattle.std.specs.Prelude.{ℕ, ◌+◌, ◌-◌, Bool, true, false, if◌then◌else◌, not, ◌&&◌, ◌||◌, ◌==◌, nat_le, List, [], ◌∷◌, length, map, filter, drop}
+use Rattle.std.specs.Prelude.{Option, Some, None, is_some, is_none, slice_get, bytes_eq}
 use Rattle.std.specs.List.{list_any, list_all}
 use Rattle.dl_types.specs.declared.dlsn.Dlsn.{Dlsn}
 use Rattle.dl_types.specs.declared.read_row.ReadRow.{ReadRow}
@@ -10,8 +11,11 @@ use Rattle.dl_types.specs.declared.refusal.Refusal.TheVariants as refusal
 use Rattle.dl_types.specs.declared.row.Row.{Row}
 use Rattle.dl_types.specs.Places.{place, is_before, is_same, is_at_most, greater, first_place, after_place}
 use Rattle.dl_transcript.specs.declared.event.Event.{Event}
-use Rattle.dl_transcript.specs.declared.event.Event.TheVariants.{Joined, Expired, Created, Removed, Released, Whole, Writer, Took, Sent, Grow, Ack, Committed, Closed, Recovered, Point, Truncated, Purged, OpenedAt, OpenedFrom, Reading, End, Rows, Refused, Mail, Nothing}
-pub use Rattle.dl_transcript.specs.Histories.{TakenRecord, StreamHistory, Cursor, At, AtOneOf, ReaderHistory, ClientHistory, History, new_stream, new_client, no_history, put_stream, put_client}
+use Rattle.dl_transcript.specs.declared.event.Event.TheVariants.{Joined, Expired, Created, Removed, Released, Whole, Writer, Took, Sent, Grow, Ack}
+use Rattle.dl_transcript.specs.declared.event.Event.TheVariants.{Committed, Closed, Recovered, Point, Truncated, Purged, OpenedAt, OpenedFrom, Reading, End}
+use Rattle.dl_transcript.specs.declared.event.Event.TheVariants.{Rows, Refused, Mail, Nothing}
+pub use Rattle.dl_transcript.specs.Histories.{TakenRecord, StreamHistory, Cursor, At, AtOneOf, ReaderHistory, ClientHistory, History, new_stream}
+pub use Rattle.dl_transcript.specs.Histories.{new_client, no_history, put_stream, put_client}
 use Rattle.dl_transcript.specs.Histories.{put_reader, change_reader, without_read, with_row, with_point, with_writer, with_end, with_taken, with_ack}
 
 -- the number is in the list

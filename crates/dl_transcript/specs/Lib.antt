@@ -2,6 +2,10 @@ pub mod Verbs
 pub mod Lines
 pub mod Histories
 pub mod Legal
+pub mod PathFields
+pub mod Ranges
+pub mod Reading
+pub mod Judging
 pub mod Examples
 pub mod WritingLaws
 pub mod SegmentLaws

@@ -1,16 +1,18 @@
 -- The one spelling of each event: the number of its line of the schedule, a space, the event, LF.
 use Rattle.std.specs.Prelude.{ℕ, List, [], ◌∷◌, ◌++◌, map, codes}
 use Rattle.std.specs.List.{flat_map}
-use Rattle.dl_types.specs.declared.address.Address.{Address}
-use Rattle.dl_types.specs.declared.address.Address.TheVariants.{Client, Bookie, Meta}
 use Rattle.dl_types.specs.declared.read_row.ReadRow.{ReadRow}
 pub use Rattle.dl_text.specs.Ends.{space, colon, line_feed}
 use Rattle.dl_text.specs.Numbers.{number}
 use Rattle.dl_text.specs.Hex.{hex}
 use Rattle.dl_text.specs.Fields.{bytes_field, place_field}
+use Rattle.dl_text.specs.ListFields.{list_field}
 use Rattle.dl_text.specs.Refusals.{refusal_field}
+use Rattle.dl_schedule.specs.StepLines.{address_field}
 use Rattle.dl_transcript.specs.declared.event.Event.{Event}
-use Rattle.dl_transcript.specs.declared.event.Event.TheVariants.{Joined, Expired, Created, Removed, Released, Whole, Writer, Took, Sent, Grow, Ack, Committed, Closed, Recovered, Point, Truncated, Purged, OpenedAt, OpenedFrom, Reading, End, Rows, Refused, Mail, Nothing}
+use Rattle.dl_transcript.specs.declared.event.Event.TheVariants.{Joined, Expired, Created, Removed, Released, Whole, Writer, Took, Sent, Grow, Ack, Committed}
+use Rattle.dl_transcript.specs.declared.event.Event.TheVariants.{Closed, Recovered, Point, Truncated, Purged, OpenedAt, OpenedFrom, Reading, End, Rows}
+use Rattle.dl_transcript.specs.declared.event.Event.TheVariants.{Refused, Mail, Nothing}
 use Rattle.dl_transcript.specs.declared.verb.Verb.{Verb}
 use Rattle.dl_transcript.specs.declared.verb.Verb.TheVariants as verb
 use Rattle.dl_transcript.specs.Verbs.{verb_text}
@@ -59,18 +61,6 @@ print_order c stream end = number space c ++ bytes_field end stream
 abbrev pub row_field : ℕ → ReadRow → List ℕ
 row_field end row = place_field slash row.place ++ (number slash row.txid ++ hex end row.payload)
 
--- rows, to the end of the line
-abbrev pub row_fields : List ReadRow → List ℕ
-row_fields [] = []
-row_fields (row ∷ []) = row_field line_feed row
-row_fields (row ∷ next ∷ rows) = row_field space row ++ row_fields (next ∷ rows)
-
--- a node, and the byte that ends it
-abbrev pub node_field : ℕ → Address → List ℕ
-node_field end (Client c) = codes "c" ++ number end c
-node_field end (Bookie b) = codes "b" ++ number end b
-node_field end Meta = codes "m" ++ end ∷ []
-
 -- an event behind its first word
 abbrev pub print_fields : Event → List ℕ
 print_fields (Joined c k) = number space c ++ number line_feed k
@@ -94,9 +84,9 @@ print_fields (OpenedAt c stream d) = print_order c stream space ++ place_field l
 print_fields (OpenedFrom c stream txid) = print_order c stream space ++ (codes "txid " ++ number line_feed txid)
 print_fields (Reading c stream) = print_order c stream line_feed
 print_fields (End c stream) = print_order c stream line_feed
-print_fields (Rows c stream rows) = print_order c stream space ++ row_fields rows
+print_fields (Rows c stream rows) = print_order c stream space ++ list_field row_field rows
 print_fields (Refused c why) = number space c ++ refusal_field why
-print_fields (Mail from to count) = node_field space from ++ (node_field space to ++ number line_feed count)
+print_fields (Mail from to count) = address_field space from ++ (address_field space to ++ number line_feed count)
 print_fields Nothing = []
 
 -- an event at its line of the schedule

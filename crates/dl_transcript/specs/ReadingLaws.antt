@@ -7,7 +7,8 @@ use Rattle.dl_types.specs.declared.refusal.Refusal.TheVariants as refusal
 use Rattle.dl_types.specs.Places.{place, first_place}
 use Rattle.dl_transcript.specs.declared.event.Event.{Event}
 use Rattle.dl_transcript.specs.declared.event.Event.TheVariants.{Joined, Took, Grow, Committed, Closed, Point, OpenedAt, Reading, End, Rows, Refused}
-use Rattle.dl_transcript.specs.Examples.{fault_among, fault_after_refusal, stream_s, stream_t, append_event, row_event, two_rows, row_a, row_b, read_at, read_from, rows_event, point_at, passed_event}
+use Rattle.dl_transcript.specs.Examples.{fault_among, fault_after_refusal, stream_s, stream_t, append_event, row_event, two_rows, row_a, row_b, read_at}
+use Rattle.dl_transcript.specs.Examples.{read_from, rows_event, point_at, passed_event}
 
 -- a read begins, and comes to its end
 pub record ReadsBind : Type 0 where
@@ -24,7 +25,8 @@ pub record ReadsBind : Type 0 where
   pub joined_other : fault_among (OpenedAt 0 stream_s first_place ∷ Joined 1 1 ∷ Reading 0 stream_s ∷ []) ≡ None
   -- rows are given to a read of that stream, which is then over
   pub rows_unread : fault_among (two_rows ++ OpenedAt 0 stream_s first_place ∷ rows_event (row_a ∷ []) ∷ []) ≡ Some 6
-  pub rows_stream : fault_among (Took 1 1 stream_t 5 (97 ∷ []) ∷ Grow stream_t first_place 5 1 1 (97 ∷ []) ∷ read_at first_place ++ Rows 0 stream_t (row_a ∷ []) ∷ []) ≡ Some 5
+  pub rows_stream : fault_among (Took 1 1 stream_t 5 (97 ∷ []) ∷ Grow stream_t first_place 5 1 1 (97 ∷ [])
+      ∷ read_at first_place ++ Rows 0 stream_t (row_a ∷ []) ∷ []) ≡ Some 5
   pub rows_over : fault_among (two_rows ++ read_at first_place ++ rows_event (row_a ∷ []) ∷ rows_event (row_b ∷ []) ∷ []) ≡ Some 8
   -- and so is a read told that it found none
   pub end_unread : fault_among (OpenedAt 0 stream_s first_place ∷ End 0 stream_s ∷ []) ≡ Some 2

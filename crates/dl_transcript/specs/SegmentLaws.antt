@@ -24,8 +24,10 @@ pub record SegmentsBind : Type 0 where
   pub committed_next : fault_among (Closed stream_s 1 ∷ Committed stream_s (place 2 0 0) ∷ []) ≡ None
   pub committed_slot : fault_among (Committed stream_s (place 1 0 1) ∷ []) ≡ Some 1
   -- the mark never goes back
-  pub lower_mark : fault_among (Committed stream_s (place 1 3 0) ∷ Committed stream_s (place 1 1 0) ∷ append_event 1 5 97 ∷ row_event (place 1 2 0) 1 5 97 ∷ []) ≡ Some 4
-  pub same_mark : fault_among (Committed stream_s (place 1 3 0) ∷ Committed stream_s (place 1 1 0) ∷ append_event 1 5 97 ∷ row_event (place 1 3 0) 1 5 97 ∷ []) ≡ None
+  pub lower_mark : fault_among (Committed stream_s (place 1 3 0) ∷ Committed stream_s (place 1 1 0)
+      ∷ append_event 1 5 97 ∷ row_event (place 1 2 0) 1 5 97 ∷ []) ≡ Some 4
+  pub same_mark : fault_among (Committed stream_s (place 1 3 0) ∷ Committed stream_s (place 1 1 0)
+      ∷ append_event 1 5 97 ∷ row_event (place 1 3 0) 1 5 97 ∷ []) ≡ None
 
 -- the rules of recoveries, of points and of truncations
 pub record EndsBind : Type 0 where
@@ -42,7 +44,8 @@ pub record EndsBind : Type 0 where
   -- and where each recovery of that segment does
   pub same_end : fault_among (Closed stream_s 1 ∷ Recovered 0 stream_s (place 1 2 0) ∷ Recovered 1 stream_s (place 1 2 0) ∷ []) ≡ None
   pub other_end : fault_among (Closed stream_s 1 ∷ Recovered 0 stream_s (place 1 2 0) ∷ Recovered 1 stream_s (place 1 3 0) ∷ []) ≡ Some 3
-  pub later_end : fault_among (Closed stream_s 1 ∷ Closed stream_s 2 ∷ Recovered 0 stream_s (place 1 2 0) ∷ Recovered 0 stream_s (place 2 3 0) ∷ Recovered 0 stream_s (place 1 3 0) ∷ []) ≡ Some 5
+  pub later_end : fault_among (Closed stream_s 1 ∷ Closed stream_s 2 ∷ Recovered 0 stream_s (place 1 2 0)
+      ∷ Recovered 0 stream_s (place 2 3 0) ∷ Recovered 0 stream_s (place 1 3 0) ∷ []) ≡ Some 5
   pub stream_end : fault_among (Closed stream_s 1 ∷ Closed stream_t 1 ∷ Recovered 0 stream_s (place 1 2 0) ∷ Recovered 0 stream_t (place 1 3 0) ∷ []) ≡ None
   -- the point moves up, at most to the segment under way
   pub point_beyond : fault_among (Closed stream_s 1 ∷ Point stream_s (place 2 0 1) ∷ []) ≡ Some 2

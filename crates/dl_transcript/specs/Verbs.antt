@@ -1,7 +1,9 @@
 -- The first words of events.
 use Rattle.std.specs.Prelude.{ℕ, List, codes}
 use Rattle.dl_transcript.specs.declared.verb.Verb.{Verb}
-use Rattle.dl_transcript.specs.declared.verb.Verb.TheVariants.{Joined, Expired, Created, Removed, Released, Whole, Writer, Took, Sent, Grow, Ack, Committed, Closed, Recovered, Point, Truncated, Purged, Opened, Reading, End, Rows, Refused, Mail, Nothing}
+use Rattle.dl_transcript.specs.declared.verb.Verb.TheVariants.{Joined, Expired, Created, Removed, Released, Whole, Writer, Took, Sent, Grow, Ack, Committed}
+use Rattle.dl_transcript.specs.declared.verb.Verb.TheVariants.{Closed, Recovered, Point, Truncated, Purged, Opened, Reading, End, Rows, Refused, Mail}
+use Rattle.dl_transcript.specs.declared.verb.Verb.TheVariants.{Nothing}
 
 -- the first word of an event, with the byte that ends it
 abbrev pub verb_text : Verb → List ℕ

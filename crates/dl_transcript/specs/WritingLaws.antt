@@ -3,15 +3,16 @@
 use Rattle.std.specs.Prelude.{◌≡◌, true, false, [], ◌∷◌, ◌++◌, Some, None}
 use Rattle.dl_types.specs.declared.address.Address.TheVariants as node
 use Rattle.dl_types.specs.Places.{place, first_place}
-use Rattle.dl_transcript.specs.declared.event.Event.TheVariants.{Joined, Expired, Created, Removed, Released, Whole, Writer, Took, Sent, Grow, Ack, Committed, Closed, Purged, OpenedAt, OpenedFrom, Mail, Nothing}
+use Rattle.dl_transcript.specs.declared.event.Event.TheVariants.{Joined, Expired, Created, Removed, Released, Whole, Writer, Took, Sent, Grow, Ack}
+use Rattle.dl_transcript.specs.declared.event.Event.TheVariants.{Committed, Closed, Purged, OpenedAt, OpenedFrom, Mail, Nothing}
 use Rattle.dl_transcript.specs.Legal.{fault_of, is_legal}
 use Rattle.dl_transcript.specs.Examples.{fault_among, stream_s, stream_t, append_event, row_event, grow_event, ack_event, two_rows}
 
 -- the numbers of lines, and the rules of sessions and records
 pub record SessionsBind : Type 0 where
   -- a writer's whole work is legal
-  pub whole : fault_of ((2, Joined 0 1) ∷ (4, Created 0 stream_s) ∷ (6, Writer 0 stream_s 1) ∷ (7, append_event 1 5 97) ∷ (7, append_event 2 5 98) ∷ (8, Sent 0 1 0)
-      ∷ (9, grow_event 0 1 5 97) ∷ (9, grow_event 1 2 5 98) ∷ (9, ack_event 0 1) ∷ (9, ack_event 1 2) ∷ (10, Nothing) ∷ []) ≡ None
+  pub whole : fault_of ((2, Joined 0 1) ∷ (4, Created 0 stream_s) ∷ (6, Writer 0 stream_s 1) ∷ (7, append_event 1 5 97) ∷ (7, append_event 2 5 98)
+      ∷ (8, Sent 0 1 0) ∷ (9, grow_event 0 1 5 97) ∷ (9, grow_event 1 2 5 98) ∷ (9, ack_event 0 1) ∷ (9, ack_event 1 2) ∷ (10, Nothing) ∷ []) ≡ None
   -- legal is what has no fault
   pub legal : is_legal ((1, Nothing) ∷ (1, Nothing) ∷ []) ≡ true
   pub illegal : is_legal ((1, Nothing) ∷ (1, Joined 0 2) ∷ []) ≡ false

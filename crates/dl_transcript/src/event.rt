@@ -8,7 +8,8 @@ use dl_types::refusal::Refusal;
 use dl_types::session::SessionId;
 use dl_types::txid::TxId;
 
-/// What a step of the machine shows. The fields of a variant are the words of its line, in their order.
+/// What a step of the machine shows. The fields of a variant are the words of its line, in their
+/// order.
 #[derive(Debug, Drop)]
 pub enum Event {
     /// The client joined with this session.
@@ -46,7 +47,8 @@ pub enum Event {
         stream: Name,
         segment: u64,
     },
-    /// A record was taken from the client for the stream; `call` counts the client's records from 1.
+    /// A record was taken from the client for the stream; `call` counts the client's records from
+    /// 1.
     Took {
         client: ClientId,
         call: u32,
@@ -85,7 +87,8 @@ pub enum Event {
         stream: Name,
         segment: u64,
     },
-    /// The client recovered the segment of this place; the place's entry is the number of entries that it was closed with.
+    /// The client recovered the segment of this place; the place's entry is the number of entries
+    /// that it was closed with.
     Recovered {
         client: ClientId,
         stream: Name,
@@ -102,7 +105,8 @@ pub enum Event {
         stream: Name,
         place: Dlsn,
     },
-    /// The client deleted so many segments of the stream, all of them below the one that its point stands in.
+    /// The client deleted so many segments of the stream, all of them below the one that its point
+    /// stands in.
     Purged {
         client: ClientId,
         stream: Name,

@@ -5,7 +5,8 @@ pub fn legal_goes_on()
     ensures { GoesOn }
 {}
 
-/// A law: each rule of a legal transcript binds. A small transcript that breaks this rule alone has its first fault there.
+/// A law: each rule of a legal transcript binds. A small transcript that breaks this rule alone has
+/// its first fault there.
 pub fn each_rule_binds()
     ensures { EachRuleBinds }
 {}

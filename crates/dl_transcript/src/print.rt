@@ -1,7 +1,9 @@
 ghost use Rattle.std.specs.Prelude.{◌≡◌, ◌++◌, OnOk, IfOk};
-ghost use Rattle.dl_transcript.specs.Lines.{space, verb_of, print_origin, print_order, row_field, row_fields, node_field, print_fields, print_event};
+ghost use Rattle.dl_transcript.specs.Lines.{space, verb_of, print_origin, print_order, row_field, print_fields, print_event};
 ghost use Rattle.dl_transcript.specs.Verbs.{verb_text};
+ghost use Rattle.dl_text.specs.ListFields.{list_field};
 ghost use Rattle.dl_text.specs.Numbers.{number};
+ghost use Rattle.dl_schedule.specs.StepLines.{address_field};
 
 use crate::event::Event;
 use crate::verb::Verb;
@@ -69,7 +71,7 @@ fn put_row(out: &mut Vec<u8>, end: u8, row: &ReadRow) -> Result<(), NoMemory>
 
 /// Puts rows, to the end of the line.
 fn put_rows(out: &mut Vec<u8>, rows: &[ReadRow]) -> Result<(), NoMemory>
-    ensures { OnOk result (out.new.items ≡ out.old.items ++ row_fields rows.now) }
+    ensures { OnOk result (out.new.items ≡ out.old.items ++ list_field row_field rows.now) }
 {
     for (i, row) in rows.iter().enumerate() {
         let end = if i + 1 < rows.len() { b' ' } else { b'\n' };
@@ -78,11 +80,11 @@ fn put_rows(out: &mut Vec<u8>, rows: &[ReadRow]) -> Result<(), NoMemory>
     Ok(())
 }
 
-/// Puts a node that sends or takes messages, and the byte `end` behind it.
-fn put_node(out: &mut Vec<u8>, end: u8, node: &Address) -> Result<(), NoMemory>
-    ensures { OnOk result (out.new.items ≡ out.old.items ++ node_field end node.now) }
+/// Puts the address of a node, and the byte `end` behind it.
+fn put_address(out: &mut Vec<u8>, end: u8, address: &Address) -> Result<(), NoMemory>
+    ensures { OnOk result (out.new.items ≡ out.old.items ++ address_field end address.now) }
 {
-    match node {
+    match address {
         Address::Client(client) => {
             out.push(b'c')?;
             put_number(out, end, u64::from(client.number()))
@@ -332,8 +334,8 @@ fn put_fields(out: &mut Vec<u8>, event: &Event) -> Result<(), NoMemory>
             put_refusal(out, refusal)
         }
         Event::Mail { from, to, count } => {
-            put_node(out, b' ', from)?;
-            put_node(out, b' ', to)?;
+            put_address(out, b' ', from)?;
+            put_address(out, b' ', to)?;
             put_number(out, b'\n', u64::from(*count))
         }
         Event::Nothing => Ok(()),

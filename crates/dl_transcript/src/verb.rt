@@ -3,7 +3,8 @@ ghost use Rattle.dl_transcript.specs.Verbs.{verb_text};
 
 use dl_text::word::Word;
 
-/// The first word of an event, with the space behind it; a word that is a whole event ends in its LF.
+/// The first word of an event, with the space behind it; a word that is a whole event ends in its
+/// LF.
 #[derive(Clone, Copy, Debug, PartialEq, Eq)]
 pub enum Verb {
     Joined,

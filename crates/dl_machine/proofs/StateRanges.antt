@@ -1,0 +1,710 @@
+-- The ranges of what a state keeps and an atomic step shows: the clients that have joined, the counts of their records, the entries
+-- that were sent, and the last session.
+use Rattle.std.proofs.Common.{length, ◌≡◌, ℕ, suc, ◌+◌, ◌*◌, ◌-◌, ◌≤◌, Bool, true, false, ◌&&◌, List, [], ◌∷◌, drop, map, Option, Some}
+use Rattle.std.proofs.Common.{None, Result, Ok, Err, refl, arith, slice_get}
+use Rattle.std.specs.Prelude.{is_none}
+use Rattle.std.specs.List.{AllByRecursion}
+use Rattle.dl_types.specs.declared.address.Address.{Address}
+use Rattle.dl_types.specs.declared.address.Address.TheVariants.{Client, Bookie as AtBookie, Meta as AtMeta}
+use Rattle.dl_types.specs.declared.meta_answer.MetaAnswer.{MetaAnswer}
+use Rattle.dl_types.specs.declared.meta_op.MetaOp.{MetaOp}
+use Rattle.dl_types.specs.declared.one_op.OneOp.{OneOp}
+use Rattle.dl_types.specs.declared.one_op.OneOp.TheVariants.{Create, Delete, Set, Check, Get, Children}
+use Rattle.dl_text.specs.Numbers.{most_u64}
+use Rattle.dl_msg.specs.declared.letter.Letter.{Letter}
+use Rattle.dl_msg.specs.declared.msg.Msg.{Msg}
+use Rattle.dl_tree.specs.Trees.{Nodes}
+use Rattle.dl_session.specs.declared.admit.Admit.{Admit}
+use Rattle.dl_session.specs.declared.admit.Admit.TheVariants as admit
+use Rattle.dl_session.specs.Sessions.{is_live, after_connect, after_expiry, after_run}
+use Rattle.dl_formats.specs.declared.conf.Conf.{Conf}
+use Rattle.dl_formats.specs.declared.cut.Cut.{Cut}
+use Rattle.dl_formats.specs.declared.segment.SegmentMeta.{SegmentMeta}
+use Rattle.dl_formats.specs.declared.segment.SegmentMeta.TheVariants.{InProgress, Completed}
+use Rattle.dl_formats.specs.Keys.{path_of}
+use Rattle.dl_formats.specs.NodeBytes.{ten_nines}
+use Rattle.dl_formats.specs.Reading.{segment_at}
+use Rattle.dl_tree.specs.declared.node.Node as tree
+use Rattle.std.specs.Prelude.{bytes_eq, filter_map}
+use Rattle.std.specs.List.{cons_option}
+use Rattle.std.specs.FinMap.{get, keys}
+use Rattle.dl_rules_client.proofs.NodeRanges.{SegmentFits, segment_such}
+use Rattle.dl_rules_client.proofs.RangeLists.{AllOk}
+use Rattle.dl_formats.specs.declared.fault.MetaBytesFault.{MetaBytesFault}
+use Rattle.dl_formats.specs.Keys as key
+use Rattle.dl_formats.specs.Reading.{cut_at}
+use Rattle.dl_rules_nodes.specs.Bookies.{Bookie, Waiting, Reply, Taken, Looks, Answers, Queues, table_row, answer_now, after, replies_of, after_commit}
+use Rattle.dl_rules_nodes.specs.Items.{MetaItem, Setup, Connect, Expire, Ask}
+use Rattle.dl_rules_nodes.specs.Metadata.{meta_from, meta_of, does, answer_of, reply_of}
+use Rattle.dl_schedule.specs.declared.step.Step.{Step}
+use Rattle.dl_schedule.specs.StepLines.{IsStep, IsClient, IsBookie, IsCount, IsLink}
+use Rattle.dl_transcript.specs.declared.event.Event.{Event}
+use Rattle.dl_transcript.specs.declared.event.Event.TheVariants as event
+use Rattle.dl_transcript.specs.Ranges.{IsSession}
+use Rattle.dl_rules_client.specs.Acts.{Input, Line, Came, ClientArgs, Acts, SentEntry, Confirmation}
+use Rattle.dl_rules_client.specs.Clients.{client_of, acts_of}
+use Rattle.dl_rules_client.specs.EventRanges.{LetterFits, FitsItsLine, IsInput, lines_in, set_most, ArgsFit}
+use Rattle.dl_rules_client.proofs.RangeLists.{all-get, AllSome, all-append, all-last, all-take, all-drop, all-map, all-flat}
+use Rattle.dl_rules_client.proofs.LogRanges.{IsRow}
+use Rattle.dl_rules_client.proofs.ClientRanges.{ActsFit, SentFits}
+use Rattle.dl_rules_client.proofs.InputRanges.{client_fits, fewer, taken_line_fits, taken_letter_fits}
+use Rattle.dl_machine.specs.States.{Node, Mode, Up, Down, Lost, is_up, with_node, with_bookie, State, Outcome, Joined, LedgerSeen, with_value, with_client}
+use Rattle.dl_machine.specs.States.{with_letters, with_meta_item, marks, quietly, then_shows}
+use Rattle.dl_machine.specs.States.{can_take, args_of}
+use Rattle.dl_machine.specs.Growth.{closing_of, closing_by, closing_at, first_in, count_in, closing_to, grow_event, entries_to_grow, grown_to, grows}
+use Rattle.dl_machine.specs.Growth.{with_entry, with_sent, confirms, stream_in, Closing, closes}
+use Rattle.dl_machine.specs.Growth.{closing_with, point_events, points_by, is_done, ops_of, shows_op, shows_ops, shows_run}
+use Rattle.dl_machine.specs.Atoms.{commits, answer_to, takes_row, reply_letter, stopped_node, killed_node, risen_node, swapped_node, loosened_node}
+use Rattle.dl_machine.specs.Atoms.{lost_node, Atom}
+use Rattle.dl_machine.specs.Atoms.{SetUp, Join, Crash, End, Order, Deliver, Commit, Stop, StopMeta, Faint, Kill, KillMeta, Rise, RiseMeta, Loosen}
+use Rattle.dl_machine.specs.Atoms.{Lose, Shows, MetaRequest, meta_in, request_in, admit_in, sets_up, new_process, joins, joins_in, ends, acts_on}
+use Rattle.dl_machine.specs.Atoms.{client_takes, with_answer, bookie_takes, runs, admits, reply_msg, meta_takes, takes_letter, delivers}
+use Rattle.dl_machine.specs.Atoms.{faints_at, faints, stops_run, stops_request, stops_msg, stops_meta, atom}
+use Rattle.dl_machine.specs.Limits.{most_lines}
+use Rattle.dl_machine.proofs.Movements.{cond_both, put_each}
+
+-- ---- states
+
+-- A client that has joined, where at most so many lines were run, and so many lines and letters taken.
+pub record JoinedFits (lines inputs c : ℕ) (me : Joined) : Type 0 where
+  pub number : IsClient c
+  pub view : AllByRecursion IsInput me.view
+  pub few : length me.view ≤ inputs
+  pub calls : me.calls + set_most * lines_in me.view ≤ set_most * lines
+
+-- a world has 1 to 16 storage nodes
+abbrev pub ConfFits : Conf → Type 0
+ConfFits conf = IsCount conf.b
+
+-- a reply that waits is one of a storage node to a client
+abbrev pub WaitingFits : ℕ → Waiting → Type 0
+WaitingFits b w = IsBookie b × IsClient w.client
+
+-- the replies that wait at a storage node
+abbrev pub QueueFits : ℕ → Bookie → Type 0
+QueueFits b k = AllByRecursion (WaitingFits b) k.queue
+
+-- A storage node, and the other list that its disk may hold.
+pub record NodeFits (b : ℕ) (n : Node) : Type 0 where
+  pub bookie : QueueFits b n.bookie
+  pub other : AllSome (QueueFits b) n.other
+
+-- The parts of a state, where at most so many lines were run, and so many lines and letters taken: the
+-- configuration, the storage nodes, the letters, the clients, the counts of their records, the ledgers, and the last session.
+pub record PartsFit (lines inputs : ℕ) (world : Option Conf) (held : ℕ → Node) (sent : List Letter) (clients : ℕ → Option Joined) (counts : ℕ → ℕ)
+    (seen : ℕ → LedgerSeen) (last : ℕ) : Type 0 where
+  pub conf : AllSome ConfFits world
+  pub nodes : (b : ℕ) → NodeFits b (held b)
+  pub letters : AllByRecursion LetterFits sent
+  pub joined : (c : ℕ) → AllSome (JoinedFits lines inputs c) (clients c)
+  pub calls : (c : ℕ) → counts c ≤ set_most * lines
+  pub ledgers : (l : ℕ) → AllByRecursion SentFits (seen l).sent
+  pub sessions : last ≤ lines
+
+-- a state
+abbrev pub StateFits : (lines inputs : ℕ) → State → Type 0
+StateFits lines inputs s = PartsFit lines inputs s.conf s.nodes s.letters s.clients s.calls s.ledgers (meta_in s).sessions.last
+
+-- A state, and what is shown with it.
+pub record OutcomeFits (lines inputs : ℕ) (o : Outcome) : Type 0 where
+  pub state : StateFits lines inputs o.state
+  pub events : AllByRecursion FitsItsLine o.events
+
+-- a client behind lines more
+joined_more : (n m i j c : ℕ) (me : Option Joined) → n ≤ m → i ≤ j → AllSome (JoinedFits n i c) me → AllSome (JoinedFits m j c) me
+joined_more n m i j c None h g fit = tt
+joined_more n m i j c (Some me) h g fit =
+    record { number = fit.number; view = fit.view; few = omega (arith, g, fit.few); calls = omega (arith, h, fit.calls) }
+
+-- a state behind lines more
+pub state_more : (n m i j : ℕ) (s : State) → n ≤ m → i ≤ j → StateFits n i s → StateFits m j s
+state_more n m i j s h g fit = record {
+  conf = fit.conf;
+  nodes = fit.nodes;
+  letters = fit.letters;
+  joined = λ c. joined_more n m i j c (s.clients c) h g (fit.joined c);
+  calls = λ c. omega (arith, h, fit.calls c);
+  ledgers = fit.ledgers;
+  sessions = omega (arith, h, fit.sessions);
+}
+
+-- nothing is shown
+pub quietly_fits : (n i : ℕ) (s : State) → StateFits n i s → OutcomeFits n i (quietly s)
+quietly_fits n i s fit = record { state = fit; events = tt }
+
+-- events more
+then_fits : (n i : ℕ) (o : Outcome) (es : List Event) → OutcomeFits n i o → AllByRecursion FitsItsLine es → OutcomeFits n i (then_shows o es)
+then_fits n i o es fit each = record { state = fit.state; events = all-append FitsItsLine o.events es fit.events each }
+
+-- ---- growth
+
+-- a ledger is now this one
+ledger_fits : (n i : ℕ) (s : State) (l : ℕ) (g : LedgerSeen) → AllByRecursion SentFits g.sent → StateFits n i s
+    → PartsFit n i s.conf s.nodes s.letters s.clients s.calls (with_value s.ledgers l g) (meta_in s).sessions.last
+ledger_fits n i s l g is fit = record {
+  conf = fit.conf;
+  nodes = fit.nodes;
+  letters = fit.letters;
+  joined = fit.joined;
+  calls = fit.calls;
+  ledgers = put_each s.ledgers l g (λ j x. AllByRecursion SentFits x.sent) is fit.ledgers;
+  sessions = fit.sessions;
+}
+
+-- a row of an entry that was sent, as it grows
+grow_fits : (x : SentEntry) → SentFits x → AllByRecursion FitsItsLine (map (grow_event x.stream) x.rows)
+grow_fits x is = all-map IsRow FitsItsLine (grow_event x.stream)
+    (λ row r. (is.stream, (r.place, (r.txid, (r.client, (r.call, r.payload)))))) x.rows is.rows
+
+-- a ledger grows
+grows_fit : (n i : ℕ) (s : State) (l count : ℕ) → StateFits n i s → OutcomeFits n i (grows s l count)
+grows_fit n i s l count fit =
+    let g : LedgerSeen = s.ledgers l in
+    record {
+      state = ledger_fits n i s l (grown_to g count) (fit.ledgers l) fit;
+      events = all-flat SentFits FitsItsLine (λ (x : SentEntry). map (grow_event x.stream) x.rows) grow_fits (entries_to_grow g count)
+          (all-take SentFits (count - g.grown) (drop g.grown g.sent) (all-drop SentFits g.grown g.sent (fit.ledgers l)));
+    }
+
+-- what a writer has confirmed grows
+confirms_fit : (n i : ℕ) (s : State) (x : Option Confirmation) → StateFits n i s → OutcomeFits n i (confirms s x)
+confirms_fit n i s None fit = quietly_fits n i s fit
+confirms_fit n i s (Some x) fit = grows_fit n i s x.ledger x.count fit
+
+-- the entry that a client sent
+sent_fits : (n i : ℕ) (s : State) (x : Option SentEntry) → AllSome SentFits x → StateFits n i s → StateFits n i (with_sent s x)
+sent_fits n i s None is fit = fit
+sent_fits n i s (Some x) is fit =
+    ledger_fits n i s x.ledger (with_entry (s.ledgers x.ledger) x) (all-last SentFits (s.ledgers x.ledger).sent x (fit.ledgers x.ledger) is) fit
+
+-- the segment that is closed has at most ten digits
+abbrev ClosingFits : Closing → Type 0
+ClosingFits x = x.segment ≤ ten_nines
+
+-- a segment of a stream
+closing_of_fits : (path : List ℕ) (count : ℕ) (stream : Option (List ℕ)) (segment ledger : ℕ) → segment ≤ ten_nines
+    → AllSome ClosingFits (closing_of path count stream segment ledger)
+closing_of_fits path count None segment ledger is = tt
+closing_of_fits path count (Some stream) segment ledger is = cond_both (AllSome ClosingFits) (bytes_eq (path_of (key.Ledger ledger)) path) _ None is tt
+
+-- what a node's bytes say
+closing_by_fits : (ledger_path : List ℕ) (count : ℕ) (path : List ℕ) (r : Result SegmentMeta MetaBytesFault) → AllOk r SegmentFits
+    → AllSome ClosingFits (closing_by ledger_path count path r)
+closing_by_fits ledger_path count path (Ok (InProgress segment ledger)) is = closing_of_fits ledger_path count _ segment ledger is
+closing_by_fits ledger_path count path (Ok (Completed segment ledger entries rows last)) is = tt
+closing_by_fits ledger_path count path (Err fault) is = tt
+
+-- what a node says
+closing_at_fits : (ledger_path : List ℕ) (count : ℕ) (path : List ℕ) (n : Option tree.Node) → AllSome ClosingFits (closing_at ledger_path count path n)
+closing_at_fits ledger_path count path None = tt
+closing_at_fits ledger_path count path (Some n) = closing_by_fits ledger_path count path (segment_at n.bytes) (segment_such n.bytes)
+
+-- the first of a value, where there is one, and of others
+front_fits : {B : Type 0} (P : B → Type 0) (o : Option B) (others : List B) → AllSome P o → AllSome P (first_in others)
+    → AllSome P (first_in (cons_option o others))
+front_fits P None others is rest = rest
+front_fits P (Some y) others is rest = is
+
+-- the first of values
+first_fits : {A B : Type 0} (P : B → Type 0) (f : A → Option B) → ((x : A) → AllSome P (f x)) → (xs : List A) → AllSome P (first_in (filter_map f xs))
+first_fits P f h [] = tt
+first_fits P f h (x ∷ xs) = front_fits P (f x) (filter_map f xs) (h x) (first_fits P f h xs)
+
+-- the closing that a set is
+closing_to_fits : (t : Nodes) (path : List ℕ) (count : Option ℕ) → AllSome ClosingFits (closing_to t path count)
+closing_to_fits t path None = tt
+closing_to_fits t path (Some count) =
+    first_fits ClosingFits (λ p. closing_at path count p (get t p)) (λ p. closing_at_fits path count p (get t p)) (keys t)
+
+-- the closing that an operation is
+closing_with_fits : (t : Nodes) (x : OneOp) → AllSome ClosingFits (closing_with t x)
+closing_with_fits t (Create path bytes mode) = tt
+closing_with_fits t (Delete path version) = tt
+closing_with_fits t (Set path bytes version) = closing_to_fits t path (count_in bytes)
+closing_with_fits t (Check path version) = tt
+closing_with_fits t (Get path) = tt
+closing_with_fits t (Children path) = tt
+
+-- a closing
+closes_fit : (n i : ℕ) (s : State) (x : Option Closing) → AllSome ClosingFits x → StateFits n i s → OutcomeFits n i (closes s x)
+closes_fit n i s None is fit = quietly_fits n i s fit
+closes_fit n i s (Some x) is fit =
+    then_fits n i (grows s x.ledger x.count) (event.Closed x.stream x.segment ∷ []) (grows_fit n i s x.ledger x.count fit)
+    ((omega arith, omega (arith, is)), tt)
+
+-- the point of a stream
+point_fits : (stream : Option (List ℕ)) (cut : Result Cut MetaBytesFault) → AllByRecursion FitsItsLine (point_events stream cut)
+point_fits None cut = tt
+point_fits (Some stream) (Err fault) = tt
+point_fits (Some stream) (Ok cut) = (tt, tt)
+
+-- the points of an operation
+points_fit : (x : OneOp) → AllByRecursion FitsItsLine (points_by x)
+points_fit (Create path bytes mode) = tt
+points_fit (Delete path version) = tt
+points_fit (Set path bytes version) = point_fits (stream_in key.Cut path) (cut_at bytes)
+points_fit (Check path version) = tt
+points_fit (Get path) = tt
+points_fit (Children path) = tt
+
+-- what operations show
+ops_fit : (n i : ℕ) (t : Nodes) (xs : List OneOp) (s : State) → StateFits n i s → OutcomeFits n i (shows_ops t xs s)
+ops_fit n i t [] s fit = quietly_fits n i s fit
+ops_fit n i t (x ∷ xs) s fit =
+    let now : Outcome = shows_op t x s in
+    let shown : OutcomeFits n i now =
+    then_fits n i (closes s (closing_with t x)) (points_by x) (closes_fit n i s (closing_with t x) (closing_with_fits t x) fit) (points_fit x) in
+    let later : OutcomeFits n i (shows_ops t xs now.state) = ops_fit n i t xs now.state shown.state in
+    record { state = later.state; events = all-append FitsItsLine now.events (shows_ops t xs now.state).events shown.events later.events }
+
+-- what a request shows
+run_fits : (n i : ℕ) (t : Nodes) (op : MetaOp) (a : MetaAnswer) (s : State) → StateFits n i s → OutcomeFits n i (shows_run t op a s)
+run_fits n i t op a s fit =
+    cond_both (OutcomeFits n i) (is_done a) (shows_ops t (ops_of op) s) (quietly s) (ops_fit n i t (ops_of op) s fit) (quietly_fits n i s fit)
+
+-- ---- clients
+
+-- a client that did something, behind lines more
+acts_fit : (n more m i : ℕ) (s : State) (c : ℕ) (me : Joined) (x : Input) (acts : Acts) → n + more ≤ m
+    → JoinedFits m (suc i) c (record me { view = x ∷ me.view }) → ActsFit more acts → StateFits n i s → OutcomeFits m (suc i) (acts_on s c me x acts)
+acts_fit n more m i s c me x acts h is did fit =
+    let process : Option Joined = Some (record me { view = x ∷ me.view }) in
+    let told : State = record (with_letters (with_client s c process) acts.letters) { calls = with_value s.calls c (s.calls c + acts.taken) } in
+    let later = state_more n m i (suc i) s (omega (arith, h)) (omega arith) fit in
+    let base : StateFits m (suc i) told = record {
+      conf = later.conf;
+      nodes = later.nodes;
+      letters = all-append LetterFits s.letters acts.letters later.letters did.letters;
+      joined = put_each s.clients c process (λ j p. AllSome (JoinedFits m (suc i) j) p) is later.joined;
+      calls = put_each s.calls c (s.calls c + acts.taken) (λ j k. k ≤ set_most * m) (omega (arith, h, fit.calls c, did.taken)) later.calls;
+      ledgers = later.ledgers;
+      sessions = later.sessions;
+    } in
+    then_fits m (suc i) (confirms (with_sent told acts.sent) acts.confirmed) acts.events
+    (confirms_fit m (suc i) (with_sent told acts.sent) acts.confirmed (sent_fits m (suc i) told acts.sent did.sent base)) did.events
+
+-- what a client is started with
+args_fit : (n c : ℕ) (conf : Conf) (me : Joined) (view : List Input) → ConfFits conf → n ≤ most_lines → length view ≤ most_u64 → IsClient c
+    → me.calls + set_most * lines_in view ≤ set_most * n → ArgsFit (lines_in view) (length view) (args_of conf c me)
+args_fit n c conf me view world few counted number calls = record { number = number; count = world; calls = omega (arith, few, calls); counted = counted }
+
+-- a client takes a line
+line_fits : (n i : ℕ) (s : State) (c : ℕ) (conf : Option Conf) (me : Option Joined) (line : ℕ) (x : Step) → suc n ≤ most_lines → suc i ≤ most_u64 → IsStep x
+    → AllSome ConfFits conf → AllSome (JoinedFits n i c) me → StateFits n i s → OutcomeFits (suc n) (suc i) (client_takes s c conf me (Line line x))
+line_fits n i s c (Some conf) (Some me) line x few small is world mine fit =
+    let view : List Input = Line line x ∷ me.view in
+    let who : ClientArgs = args_of conf c me in
+    let calls : me.calls + set_most * lines_in view ≤ set_most * suc n = omega (arith, mine.calls) in
+    let inputs : length view ≤ suc i = omega (arith, mine.few) in
+    let args = args_fit (suc n) c conf me view world few (omega (arith, inputs, small)) mine.number calls in
+    let now =
+    client_fits who me.view (fewer who (lines_in me.view) (lines_in view) (length me.view) (length view) (omega arith) (omega arith) args) mine.view in
+    let move = taken_line_fits who (lines_in me.view) (length me.view) (client_of who me.view) line x args is now in
+    acts_fit n 1 (suc n) i s c me (Line line x) (acts_of who me.view (Line line x)) (omega arith)
+    (record { number = mine.number; view = (is, mine.view); few = inputs; calls = calls }) move.acts fit
+line_fits n i s c (Some conf) None line x few small is world mine fit =
+    quietly_fits (suc n) (suc i) s (state_more n (suc n) i (suc i) s (omega arith) (omega arith) fit)
+line_fits n i s c None me line x few small is world mine fit =
+    quietly_fits (suc n) (suc i) s (state_more n (suc n) i (suc i) s (omega arith) (omega arith) fit)
+
+-- a letter that no client takes
+unheard_fits : (n i : ℕ) (s : State) → StateFits n i s → StateFits n (suc i) s
+unheard_fits n i s fit = state_more n n i (suc i) s (omega arith) (omega arith) fit
+
+-- a client takes a letter
+letter_fits : (n i : ℕ) (s : State) (c : ℕ) (conf : Option Conf) (me : Option Joined) (l : Letter) → n ≤ most_lines → suc i ≤ most_u64
+    → AllSome ConfFits conf → AllSome (JoinedFits n i c) me → StateFits n i s → OutcomeFits n (suc i) (client_takes s c conf me (Came l))
+letter_fits n i s c (Some conf) (Some me) l few small world mine fit =
+    let view : List Input = Came l ∷ me.view in
+    let who : ClientArgs = args_of conf c me in
+    let inputs : length view ≤ suc i = omega (arith, mine.few) in
+    let args = args_fit n c conf me view world few (omega (arith, inputs, small)) mine.number mine.calls in
+    let now =
+    client_fits who me.view (fewer who (lines_in me.view) (lines_in view) (length me.view) (length view) (omega arith) (omega arith) args) mine.view in
+    let move = taken_letter_fits who (lines_in me.view) (length me.view) (client_of who me.view) l args now in
+    acts_fit n 0 n i s c me (Came l) (acts_of who me.view (Came l)) (omega arith)
+    (record { number = mine.number; view = (tt, mine.view); few = inputs; calls = mine.calls }) move.acts fit
+letter_fits n i s c (Some conf) None l few small world mine fit = quietly_fits n (suc i) s (unheard_fits n i s fit)
+letter_fits n i s c None me l few small world mine fit = quietly_fits n (suc i) s (unheard_fits n i s fit)
+
+-- ---- the metadata node
+
+-- a request that runs gives no session
+ask_last : (items : List MetaItem) (session number : ℕ) (op : MetaOp) → (meta_of (Ask session number op ∷ items)).sessions.last ≡ (meta_of items).sessions.last
+unfolding meta_from does after_run
+ask_last items session number op = refl
+
+-- nor does the end of one
+expire_last : (items : List MetaItem) (session : ℕ) → (meta_of (Expire session ∷ items)).sessions.last ≡ (meta_of items).sessions.last
+unfolding meta_from does after_expiry
+expire_last items session = refl
+
+-- nor does a setup
+setup_last : (items : List MetaItem) (conf : Conf) → (meta_of (Setup conf ∷ items)).sessions.last ≡ (meta_of items).sessions.last
+unfolding meta_from does
+setup_last items conf = refl
+
+-- a session that is given is the last one
+connect_last : (items : List MetaItem) (k : ℕ) → (meta_of (Connect k ∷ items)).sessions.last ≡ suc (meta_of items).sessions.last
+unfolding meta_from does after_connect
+connect_last items k = omega arith
+
+-- an item more that leaves the last session
+item_fits : (n i : ℕ) (s : State) (x : MetaItem) → (meta_of (x ∷ s.meta.items)).sessions.last ≡ (meta_in s).sessions.last → StateFits n i s
+    → StateFits n i (with_meta_item s x)
+item_fits n i s x e fit = record {
+  conf = fit.conf;
+  nodes = fit.nodes;
+  letters = fit.letters;
+  joined = fit.joined;
+  calls = fit.calls;
+  ledgers = fit.ledgers;
+  sessions = omega (arith, e, fit.sessions);
+}
+
+-- a request runs
+runs_fit : (n i : ℕ) (s : State) (r : MetaRequest) → StateFits n i s → OutcomeFits n i (runs s r)
+runs_fit n i s r fit =
+    run_fits n i (meta_in s).tree r.op (answer_of (meta_in s) r.session r.op) (with_meta_item s (Ask r.session r.number r.op))
+    (item_fits n i s (Ask r.session r.number r.op) (ask_last s.meta.items r.session r.number r.op) fit)
+
+-- a request is admitted
+admits_fit : (n i : ℕ) (s : State) (r : MetaRequest) (a : Admit) → StateFits n i s → OutcomeFits n i (admits s r a)
+admits_fit n i s r admit.Run fit = runs_fit n i s r fit
+admits_fit n i s r admit.Old fit = quietly_fits n i s fit
+admits_fit n i s r admit.Expired fit = quietly_fits n i s fit
+
+-- letters more
+letters_more : (n i : ℕ) (s : State) (letters : List Letter) → AllByRecursion LetterFits letters → StateFits n i s → StateFits n i (with_letters s letters)
+letters_more n i s letters each fit = record {
+  conf = fit.conf;
+  nodes = fit.nodes;
+  letters = all-append LetterFits s.letters letters fit.letters each;
+  joined = fit.joined;
+  calls = fit.calls;
+  ledgers = fit.ledgers;
+  sessions = fit.sessions;
+}
+
+-- another storage node at a number
+node_fits : (n i : ℕ) (s : State) (b : ℕ) (x : Node) → NodeFits b x → StateFits n i s → StateFits n i (with_node s b x)
+node_fits n i s b x is fit = record {
+  conf = fit.conf;
+  nodes = put_each s.nodes b x NodeFits is fit.nodes;
+  letters = fit.letters;
+  joined = fit.joined;
+  calls = fit.calls;
+  ledgers = fit.ledgers;
+  sessions = fit.sessions;
+}
+
+-- a link goes both ways
+link_back : (a b : Address) → IsLink a b → IsLink b a
+link_back (Client c) (AtBookie b) is = (is.1, is.0)
+link_back (Client c) AtMeta is = is
+link_back (Client c) (Client d) is = is
+link_back (AtBookie b) (Client c) is = (is.1, is.0)
+link_back (AtBookie b) (AtBookie d) is = is
+link_back (AtBookie b) AtMeta is = is
+link_back AtMeta (Client c) is = is
+link_back AtMeta (AtBookie b) is = is
+link_back AtMeta AtMeta is = is
+
+-- an answer more
+answer_fits : (n i : ℕ) (s : State) (l : Letter) (reply : Option Msg) → LetterFits l → StateFits n i s → StateFits n i (with_answer s l reply)
+answer_fits n i s l None link fit = fit
+answer_fits n i s l (Some reply) link fit =
+    letters_more n i s (answer_to l reply ∷ []) (link_back l.from l.to link, tt) fit
+
+-- the metadata node takes a letter
+meta_fits : (n i : ℕ) (s : State) (l : Letter) (r : Option MetaRequest) → LetterFits l → StateFits n i s → OutcomeFits n i (meta_takes s l r)
+meta_fits n i s l None link fit = quietly_fits n i s fit
+meta_fits n i s l (Some r) link fit =
+    let now = admits_fit n i s r (admit_in s r) fit in
+    record {
+      state = answer_fits n i (admits s r (admit_in s r)).state l (reply_msg r (reply_of (meta_in s) r.session r.number r.op)) link now.state;
+      events = now.events;
+    }
+
+-- ---- letters
+
+-- a storage node after a message of a client
+after_fits : (b : ℕ) (k : Bookie) (c session : ℕ) (row : Taken) → IsBookie b → IsClient c → QueueFits b k → QueueFits b (after k c session row)
+after_fits b k c session (Queues reply item) here who fit = all-last (WaitingFits b) k.queue _ fit (here, who)
+after_fits b k c session (Answers reply) here who fit = fit
+after_fits b k c session Looks here who fit = fit
+
+-- a storage node takes a message
+row_fits : (n i : ℕ) (s : State) (l : Letter) (b c : ℕ) (row : Taken) → LetterFits l → IsClient c × IsBookie b → StateFits n i s
+    → StateFits n i (takes_row s l b c row)
+row_fits n i s l b c row link ends fit =
+    let k : Bookie = (s.nodes b).bookie in
+    let own = fit.nodes b in
+    answer_fits n i (with_bookie s b (after k c l.session row)) l (answer_now k l.msg row) link
+    (node_fits n i s b (record (s.nodes b) { bookie = after k c l.session row })
+    (record { bookie = after_fits b k c l.session row ends.1 ends.0 own.bookie; other = own.other }) fit)
+
+-- a letter is taken
+taken_fits : (n i : ℕ) (s : State) (l : Letter) (to from : Address) → n ≤ most_lines → suc i ≤ most_u64 → LetterFits l → IsLink from to → StateFits n i s
+    → OutcomeFits n (suc i) (takes_letter s l to from)
+taken_fits n i s l (AtBookie b) (Client c) few small link ends fit =
+    quietly_fits n (suc i) (bookie_takes s l b c) (row_fits n (suc i) s l b c (table_row (s.nodes b).bookie l.msg) link ends (unheard_fits n i s fit))
+taken_fits n i s l (AtBookie b) (AtBookie d) few small link ends fit = quietly_fits n (suc i) s (unheard_fits n i s fit)
+taken_fits n i s l (AtBookie b) AtMeta few small link ends fit = quietly_fits n (suc i) s (unheard_fits n i s fit)
+taken_fits n i s l AtMeta from few small link ends fit = meta_fits n (suc i) s l (request_in l.msg) link (unheard_fits n i s fit)
+taken_fits n i s l (Client c) from few small link ends fit =
+    letter_fits n i s c s.conf (s.clients c) l few small fit.conf (fit.joined c) fit
+
+-- a letter is delivered
+deliver_fits : (n i : ℕ) (s : State) (place : ℕ) (l : Option Letter) → n ≤ most_lines → suc i ≤ most_u64 → AllSome LetterFits l → StateFits n i s
+    → OutcomeFits n (suc i) (delivers s place l)
+deliver_fits n i s place None few small link fit = quietly_fits n (suc i) s (unheard_fits n i s fit)
+deliver_fits n i s place (Some l) few small link fit =
+    cond_both (OutcomeFits n (suc i)) (can_take s l l.to) (takes_letter (marks s place) l l.to l.from) (quietly s)
+    (taken_fits n i (marks s place) l l.to l.from few small link link fit) (quietly_fits n (suc i) s (unheard_fits n i s fit))
+
+-- ---- storage nodes
+
+-- a storage node that goes down
+killed_fits : (b : ℕ) (x : Node) → NodeFits b x → NodeFits b (killed_node x)
+killed_fits b x fit = cond_both (NodeFits b) (is_up x.mode) _ x (record { bookie = tt; other = fit.other }) fit
+
+-- a storage node that goes down inside a commit
+stopped_fits : (b : ℕ) (x : Node) (kept : Bool) → NodeFits b x → NodeFits b (stopped_node x kept)
+stopped_fits b x kept fit = cond_both (NodeFits b) (is_up x.mode) _ x (record { bookie = tt; other = tt }) fit
+
+-- a storage node that is loaded
+risen_fits : (b : ℕ) (x : Node) (mode : Mode) → NodeFits b x → NodeFits b (risen_node x mode)
+risen_fits b x Up fit = fit
+risen_fits b x Down fit = record { bookie = fit.bookie; other = tt }
+risen_fits b x Lost fit = fit
+
+-- a storage node whose disk holds the other list
+swapped_fits : (b : ℕ) (x : Node) (other : Option Bookie) → AllSome (QueueFits b) other → NodeFits b x → NodeFits b (swapped_node x other)
+swapped_fits b x None is fit = fit
+swapped_fits b x (Some k) is fit = record { bookie = is; other = fit.bookie }
+
+-- a storage node whose load fails
+loosened_fits : (b : ℕ) (x : Node) (mode : Mode) (other : Bool) → NodeFits b x → NodeFits b (loosened_node x mode other)
+loosened_fits b x Up other fit = fit
+loosened_fits b x Down true fit = swapped_fits b x x.other fit.other fit
+loosened_fits b x Down false fit = fit
+loosened_fits b x Lost other fit = fit
+
+-- the letters of replies that waited
+replies_fit : (b : ℕ) (k : Bookie) → QueueFits b k → AllByRecursion LetterFits (map (reply_letter b) (replies_of k))
+replies_fit b k fit =
+    all-map (λ (r : Reply). IsBookie b × IsClient r.client) LetterFits (reply_letter b) (λ r is. is) (replies_of k)
+    (all-map (WaitingFits b) (λ (r : Reply). IsBookie b × IsClient r.client) _ (λ w is. is) k.queue fit)
+
+-- a storage node commits its queue
+commits_fit : (n i : ℕ) (s : State) (b : ℕ) → StateFits n i s → StateFits n i (commits s b)
+unfolding after_commit
+commits_fit n i s b fit =
+    let own = fit.nodes b in
+    letters_more n i (with_bookie s b (after_commit (s.nodes b).bookie)) (map (reply_letter b) (replies_of (s.nodes b).bookie))
+    (replies_fit b (s.nodes b).bookie own.bookie)
+    (node_fits n i s b (record (s.nodes b) { bookie = after_commit (s.nodes b).bookie }) (record { bookie = tt; other = own.other }) fit)
+
+-- a storage node goes down on a letter
+faint_at_fits : (n i : ℕ) (s : State) (to : Address) → StateFits n i s → StateFits n i (faints_at s to)
+faint_at_fits n i s (AtBookie b) fit = node_fits n i s b (killed_node (s.nodes b)) (killed_fits b (s.nodes b) (fit.nodes b)) fit
+faint_at_fits n i s (Client c) fit = fit
+faint_at_fits n i s AtMeta fit = fit
+
+-- the same of the letter at a place
+faint_fits : (n i : ℕ) (s : State) (place : ℕ) (l : Option Letter) → StateFits n i s → StateFits n i (faints s place l)
+faint_fits n i s place None fit = fit
+faint_fits n i s place (Some l) fit =
+    cond_both (StateFits n i) (can_take s l l.to) (faints_at (marks s place) l.to) s (faint_at_fits n i (marks s place) l.to fit) fit
+
+-- the commit of a request stops
+stop_run_fits : (n i : ℕ) (s : State) (r : MetaRequest) (kept : Bool) → StateFits n i s → OutcomeFits n i (stops_run s r kept)
+stop_run_fits n i s r true fit = let now = runs_fit n i s r fit in record { state = now.state; events = now.events }
+stop_run_fits n i s r false fit = record { state = fit; events = tt }
+
+-- the same of a request that is admitted so
+stop_request_fits : (n i : ℕ) (s : State) (place : ℕ) (r : MetaRequest) (kept : Bool) (a : Admit) → StateFits n i s
+    → OutcomeFits n i (stops_request s place r kept a)
+stop_request_fits n i s place r kept admit.Run fit = stop_run_fits n i (marks s place) r kept fit
+stop_request_fits n i s place r kept admit.Old fit = quietly_fits n i s fit
+stop_request_fits n i s place r kept admit.Expired fit = quietly_fits n i s fit
+
+-- the same of a message
+stop_msg_fits : (n i : ℕ) (s : State) (place : ℕ) (kept : Bool) (r : Option MetaRequest) → StateFits n i s → OutcomeFits n i (stops_msg s place kept r)
+stop_msg_fits n i s place kept None fit = quietly_fits n i s fit
+stop_msg_fits n i s place kept (Some r) fit = stop_request_fits n i s place r kept (admit_in s r) fit
+
+-- the same of the letter at a place
+stop_meta_fits : (n i : ℕ) (s : State) (place : ℕ) (kept : Bool) (l : Option Letter) → StateFits n i s → OutcomeFits n i (stops_meta s place kept l)
+stop_meta_fits n i s place kept None fit = quietly_fits n i s fit
+stop_meta_fits n i s place kept (Some l) fit =
+    cond_both (OutcomeFits n i) s.meta_up (stops_msg s place kept (request_in l.msg)) (quietly s) (stop_msg_fits n i s place kept (request_in l.msg) fit)
+    (quietly_fits n i s fit)
+
+-- ---- sessions
+
+-- a client joins
+join_fits : (n i : ℕ) (s : State) (c : ℕ) → suc n ≤ most_lines → IsClient c → StateFits n i s → OutcomeFits (suc n) i (joins s c)
+join_fits n i s c few number fit =
+    let k : ℕ = suc (meta_in s).sessions.last in
+    let later = state_more n (suc n) i i s (omega arith) (omega arith) fit in
+    let last = connect_last s.meta.items k in
+    let process : Option Joined = Some (new_process s c k) in
+    cond_both (OutcomeFits (suc n) i) s.meta_up (joins_in s c k) (quietly s)
+    (record {
+      state = record {
+        conf = later.conf;
+        nodes = later.nodes;
+        letters = later.letters;
+        joined = put_each s.clients c process (λ j p. AllSome (JoinedFits (suc n) i j) p)
+            (record { number = number; view = tt; few = omega arith; calls = omega (arith, later.calls c) }) later.joined;
+        calls = later.calls;
+        ledgers = later.ledgers;
+        sessions = omega (arith, last, fit.sessions);
+      };
+      events = ((number, (omega arith, omega (arith, few, fit.sessions))), tt);
+    })
+    (quietly_fits (suc n) i s later)
+
+-- a client's process ends
+crash_fits : (n i : ℕ) (s : State) (c : ℕ) → StateFits n i s → StateFits n i (with_client s c None)
+crash_fits n i s c fit = record {
+  conf = fit.conf;
+  nodes = fit.nodes;
+  letters = fit.letters;
+  joined = put_each s.clients c None (λ j p. AllSome (JoinedFits n i j) p) tt fit.joined;
+  calls = fit.calls;
+  ledgers = fit.ledgers;
+  sessions = fit.sessions;
+}
+
+-- a session ends
+end_fits : (n i : ℕ) (s : State) (k : ℕ) → IsSession k → StateFits n i s → OutcomeFits n i (ends s k)
+end_fits n i s k is fit =
+    cond_both (OutcomeFits n i) (s.meta_up && is_live (meta_in s).sessions k) _ (quietly s)
+    (record { state = item_fits n i s (Expire k) (expire_last s.meta.items k) fit; events = (is, tt) }) (quietly_fits n i s fit)
+
+-- the world is set up
+setup_fits : (n i : ℕ) (s : State) (conf : Conf) → ConfFits conf → StateFits n i s → StateFits n i (sets_up s conf)
+setup_fits n i s conf is fit =
+    let set = item_fits n i s (Setup conf) (setup_last s.meta.items conf) fit in
+    cond_both (StateFits n i) (is_none s.conf) _ s
+    (record {
+      conf = is;
+      nodes = set.nodes;
+      letters = set.letters;
+      joined = set.joined;
+      calls = set.calls;
+      ledgers = set.ledgers;
+      sessions = set.sessions;
+    })
+    fit
+
+-- ---- atomic steps
+
+-- what an atomic step takes from its line is such as the grammar takes
+abbrev pub IsAtom : Atom → Type 0
+IsAtom (SetUp conf) = ConfFits conf
+IsAtom (Join c) = IsClient c
+IsAtom (Crash c) = Unit {0}
+IsAtom (End k) = IsSession k
+IsAtom (Order c line x) = IsStep x
+IsAtom (Deliver place) = Unit {0}
+IsAtom (Commit b) = Unit {0}
+IsAtom (Stop b kept) = Unit {0}
+IsAtom (StopMeta place kept) = Unit {0}
+IsAtom (Faint place) = Unit {0}
+IsAtom (Kill b) = Unit {0}
+IsAtom KillMeta = Unit {0}
+IsAtom (Rise b) = Unit {0}
+IsAtom RiseMeta = Unit {0}
+IsAtom (Loosen b other) = Unit {0}
+IsAtom (Lose b) = Unit {0}
+IsAtom (Shows e) = FitsItsLine e
+
+-- how many lines an atomic step counts for: those by which a client joins or takes a line count
+abbrev pub cost : Atom → ℕ
+cost (Join c) = 1
+cost (Order c line x) = 1
+cost (SetUp conf) = 0
+cost (Crash c) = 0
+cost (End k) = 0
+cost (Deliver place) = 0
+cost (Commit b) = 0
+cost (Stop b kept) = 0
+cost (StopMeta place kept) = 0
+cost (Faint place) = 0
+cost (Kill b) = 0
+cost KillMeta = 0
+cost (Rise b) = 0
+cost RiseMeta = 0
+cost (Loosen b other) = 0
+cost (Lose b) = 0
+cost (Shows e) = 0
+
+-- how many lines and letters a client takes by an atomic step
+abbrev pub takings : Atom → ℕ
+takings (Order c line x) = 1
+takings (Deliver place) = 1
+takings (Join c) = 0
+takings (SetUp conf) = 0
+takings (Crash c) = 0
+takings (End k) = 0
+takings (Commit b) = 0
+takings (Stop b kept) = 0
+takings (StopMeta place kept) = 0
+takings (Faint place) = 0
+takings (Kill b) = 0
+takings KillMeta = 0
+takings (Rise b) = 0
+takings RiseMeta = 0
+takings (Loosen b other) = 0
+takings (Lose b) = 0
+takings (Shows e) = 0
+
+-- a state, and what is shown with it, behind lines and takings more
+outcome_more : (n m i j : ℕ) (o : Outcome) → n ≤ m → i ≤ j → OutcomeFits n i o → OutcomeFits m j o
+outcome_more n m i j o h g fit = record { state = state_more n m i j o.state h g fit.state; events = fit.events }
+
+-- the state behind an atomic step that no client takes, and what it shows
+still_fits : (n i m j : ℕ) (o : Outcome) → n ≤ m → i ≤ j → StateFits n i o.state → AllByRecursion FitsItsLine o.events → OutcomeFits m j o
+still_fits n i m j o h g fit each = record { state = state_more n m i j o.state h g fit; events = each }
+
+-- the state behind an atomic step, and what it shows, where at most so many lines were run then, and so many lines and letters taken
+pub atom_fits : (n m i j : ℕ) (s : State) (a : Atom) → n + cost a ≤ m → i + takings a ≤ j → m ≤ most_lines → j ≤ most_u64 → IsAtom a → StateFits n i s
+    → OutcomeFits m j (atom s a)
+unfolding atom
+atom_fits n m i j s (SetUp conf) h g few small is fit = still_fits n i m j _ (omega (arith, h)) (omega (arith, g)) (setup_fits n i s conf is fit) tt
+atom_fits n m i j s (Join c) h g few small is fit =
+    outcome_more (suc n) m i j _ (omega (arith, h)) (omega (arith, g)) (join_fits n i s c (omega (arith, h, few)) is fit)
+atom_fits n m i j s (Crash c) h g few small is fit = still_fits n i m j _ (omega (arith, h)) (omega (arith, g)) (crash_fits n i s c fit) tt
+atom_fits n m i j s (End k) h g few small is fit = outcome_more n m i j _ (omega (arith, h)) (omega (arith, g)) (end_fits n i s k is fit)
+atom_fits n m i j s (Order c line x) h g few small is fit =
+    outcome_more (suc n) m (suc i) j _ (omega (arith, h)) (omega (arith, g))
+    (line_fits n i s c s.conf (s.clients c) line x (omega (arith, h, few)) (omega (arith, g, small)) is fit.conf (fit.joined c) fit)
+atom_fits n m i j s (Deliver place) h g few small is fit =
+    outcome_more n m (suc i) j _ (omega (arith, h)) (omega (arith, g))
+    (deliver_fits n i s place (slice_get s.letters place) (omega (arith, h, few)) (omega (arith, g, small))
+    (all-get LetterFits s.letters place fit.letters) fit)
+atom_fits n m i j s (Commit b) h g few small is fit =
+    still_fits n i m j _ (omega (arith, h)) (omega (arith, g)) (commits_fit n i s b fit) tt
+atom_fits n m i j s (Stop b kept) h g few small is fit =
+    still_fits n i m j _ (omega (arith, h)) (omega (arith, g))
+    (node_fits n i s b (stopped_node (s.nodes b) kept) (stopped_fits b (s.nodes b) kept (fit.nodes b)) fit) tt
+atom_fits n m i j s (StopMeta place kept) h g few small is fit =
+    outcome_more n m i j _ (omega (arith, h)) (omega (arith, g)) (stop_meta_fits n i s place kept (slice_get s.letters place) fit)
+atom_fits n m i j s (Faint place) h g few small is fit =
+    still_fits n i m j _ (omega (arith, h)) (omega (arith, g)) (faint_fits n i s place (slice_get s.letters place) fit) tt
+atom_fits n m i j s (Kill b) h g few small is fit =
+    still_fits n i m j _ (omega (arith, h)) (omega (arith, g)) (node_fits n i s b (killed_node (s.nodes b)) (killed_fits b (s.nodes b) (fit.nodes b)) fit) tt
+atom_fits n m i j s KillMeta h g few small is fit = still_fits n i m j _ (omega (arith, h)) (omega (arith, g)) fit tt
+atom_fits n m i j s (Rise b) h g few small is fit =
+    still_fits n i m j _ (omega (arith, h)) (omega (arith, g)) (node_fits n i s b _ (risen_fits b (s.nodes b) (s.nodes b).mode (fit.nodes b)) fit) tt
+atom_fits n m i j s RiseMeta h g few small is fit = still_fits n i m j _ (omega (arith, h)) (omega (arith, g)) fit tt
+atom_fits n m i j s (Loosen b other) h g few small is fit =
+    still_fits n i m j _ (omega (arith, h)) (omega (arith, g)) (node_fits n i s b _ (loosened_fits b (s.nodes b) (s.nodes b).mode other (fit.nodes b)) fit) tt
+atom_fits n m i j s (Lose b) h g few small is fit =
+    still_fits n i m j _ (omega (arith, h)) (omega (arith, g))
+    (node_fits n i s b (lost_node (s.nodes b)) (record { bookie = tt; other = (fit.nodes b).other }) fit) tt
+atom_fits n m i j s (Shows e) h g few small is fit = still_fits n i m j _ (omega (arith, h)) (omega (arith, g)) fit (is, tt)

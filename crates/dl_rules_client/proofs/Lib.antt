@@ -1,0 +1,13 @@
+pub mod RangeLists
+pub mod NextRanges
+pub mod NodeRanges
+pub mod LogRanges
+pub mod RecoveryRanges
+pub mod OpenRanges
+pub mod TellRecoveries
+pub mod TellRanges
+pub mod PurgeRanges
+pub mod ClientRanges
+pub mod OrderRanges
+pub mod WriterRanges
+pub mod InputRanges

@@ -1,0 +1,84 @@
+-- What is known of the values of events by the lines of the schedule.
+use Rattle.std.specs.Prelude.{ℕ, suc, ◌+◌, ◌*◌, ◌≤◌, List, [], ◌∷◌, length}
+use Rattle.std.specs.List.{AllByRecursion}
+use Rattle.dl_text.specs.NameFields.{IsName}
+use Rattle.dl_text.specs.Numbers.{most_u32, most_u64}
+use Rattle.dl_msg.specs.declared.letter.Letter.{Letter}
+use Rattle.dl_schedule.specs.declared.step.TheConstants.{MAX_SET}
+use Rattle.dl_schedule.specs.StepLines.{IsStep, IsClient, IsCount, IsLink}
+use Rattle.dl_transcript.specs.declared.event.Event.{Event}
+use Rattle.dl_transcript.specs.declared.event.Event.TheVariants.{Joined, Expired, Created, Removed, Released, Whole, Writer, Took, Sent, Grow, Ack, Committed}
+use Rattle.dl_transcript.specs.declared.event.Event.TheVariants.{Closed, Recovered, Point, Truncated, Purged, OpenedAt, OpenedFrom, Reading, End, Rows}
+use Rattle.dl_transcript.specs.declared.event.Event.TheVariants.{Refused, Mail, Nothing}
+use Rattle.dl_transcript.specs.Ranges.{IsU64, IsEvent}
+use Rattle.dl_rules_client.specs.Acts.{Input, Line, Came, ClientArgs, Acts}
+use Rattle.dl_rules_client.specs.Clients.{acts_of}
+
+-- What is said of the values of an event: all that its line asks for; of an event that takes values out of the metadata tree or out
+-- of stored entries, the others alone.
+abbrev pub FitsItsLine : Event → Type 0
+FitsItsLine (Joined c k) = IsEvent (Joined c k)
+FitsItsLine (Expired k) = IsEvent (Expired k)
+FitsItsLine (Created c stream) = IsEvent (Created c stream)
+FitsItsLine (Removed c stream) = IsEvent (Removed c stream)
+FitsItsLine (Released c stream) = IsEvent (Released c stream)
+FitsItsLine (Whole c stream) = IsEvent (Whole c stream)
+FitsItsLine (Writer c stream k) = IsEvent (Writer c stream k)
+FitsItsLine (Took c n stream txid payload) = IsEvent (Took c n stream txid payload)
+FitsItsLine (Sent c k e) = IsEvent (Sent c k e)
+FitsItsLine (Grow stream d txid c n payload) = IsEvent (Grow stream d txid c n payload)
+FitsItsLine (Ack c n d) = IsEvent (Ack c n d)
+FitsItsLine (Committed stream d) = IsEvent (Committed stream d)
+FitsItsLine (Closed stream k) = IsU64 k
+FitsItsLine (Recovered c stream d) = IsEvent (Recovered c stream d)
+FitsItsLine (Point stream d) = Unit {0}
+FitsItsLine (Truncated c stream d) = IsEvent (Truncated c stream d)
+FitsItsLine (Purged c stream count) = IsEvent (Purged c stream count)
+FitsItsLine (OpenedAt c stream d) = IsClient c × IsName stream
+FitsItsLine (OpenedFrom c stream txid) = IsEvent (OpenedFrom c stream txid)
+FitsItsLine (Reading c stream) = IsEvent (Reading c stream)
+FitsItsLine (End c stream) = IsEvent (End c stream)
+FitsItsLine (Rows c stream rows) = IsClient c × IsName stream
+FitsItsLine (Refused c why) = IsClient c
+FitsItsLine (Mail from to count) = IsEvent (Mail from to count)
+FitsItsLine Nothing = IsEvent Nothing
+
+-- a line is one that the grammar takes
+abbrev pub IsInput : Input → Type 0
+IsInput (Line number x) = IsStep x
+IsInput (Came l) = Unit {0}
+
+-- how many lines are among these
+abbrev pub lines_in : List Input → ℕ
+lines_in [] = 0
+lines_in (Line number x ∷ view) = suc (lines_in view)
+lines_in (Came l ∷ view) = lines_in view
+
+-- the most records of a line
+abbrev pub set_most : ℕ
+set_most = MAX_SET
+
+-- A client of a world of 1 to 16 storage nodes that takes at most so many lines, and so many
+-- lines and letters: the records of the
+-- lines have numbers of 32 bits, and all that it takes can be counted in 64 bits.
+pub record ArgsFit (lines inputs : ℕ) (me : ClientArgs) : Type 0 where
+  pub number : IsClient me.number
+  pub count : IsCount me.conf.b
+  pub calls : me.calls + set_most * lines ≤ most_u32
+  pub counted : inputs ≤ most_u64
+
+-- a letter is on a link
+abbrev pub LetterFits : Letter → Type 0
+LetterFits l = IsLink l.from l.to
+
+-- What a client does: its events fit their lines, and its letters are on links.
+pub record ClientActsFit (acts : Acts) : Type 0 where
+  pub events : AllByRecursion FitsItsLine acts.events
+  pub letters : AllByRecursion LetterFits acts.letters
+
+-- What a client does as it takes something fits, where the lines that it took are such as the
+-- grammar takes.
+abbrev pub ClientEventsFit : Type 0
+ClientEventsFit = (me : ClientArgs) (view : List Input) (x : Input)
+    → ArgsFit (lines_in (x ∷ view)) (length (x ∷ view)) me → AllByRecursion IsInput (x ∷ view)
+    → ClientActsFit (acts_of me view x)
