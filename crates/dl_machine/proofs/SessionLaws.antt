@@ -57,7 +57,8 @@ acts_was s c me x acts given =
     let told : State = record (with_letters (with_client s c process) acts.letters) { calls = with_value s.calls c (s.calls c + acts.taken) } in
     let sent : State = with_sent told acts.sent in
     let t : State = (confirms sent acts.confirmed).state in
-    let same : t.clients ≡ with_value s.clients c process = but_clients told t (but_then told sent t (but_sent told acts.sent) (but_confirms sent acts.confirmed)) in
+    let same : t.clients ≡ with_value s.clients c process =
+    but_clients told t (but_then told sent t (but_sent told acts.sent) (but_confirms sent acts.confirmed)) in
     subst (λ (f : ℕ → Option Joined). EachWas s f) (sym same)
     (put_each s.clients c process (λ j p. (q : Joined) → p ≡ Some q → Was (s.clients j) q.session)
     (λ q w. record { process = me; there = given; same = ap session_of w })

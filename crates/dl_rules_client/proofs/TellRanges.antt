@@ -231,7 +231,7 @@ pub purge_told : (s : List ℕ) (stage : purge.PurgeStage) (h : Heard) → Tells
 purge_told s stage h = by_told stage (purge.purge_answers s stage) h (purge_answers_told s stage)
 
 -- a lock that is settled
-settled_told : (member : List ℕ) (least : ℕ) → TellsFit (lock.settled member least).1
+settled_told : (member : List ℕ) (least : ℕ) → TellsFit (lock.lock_or_leave member least).1
 settled_told member least = cond_both (λ (m : lock.LockStage × Next (List ℕ)). TellsFit m.1) (nat_lt least (number_behind member)) _ _ tt tt
 
 -- what the taking of a lock does at an answer
@@ -254,7 +254,7 @@ lock_told s stage h = by_told stage (lock.lock_answers s stage) h (lock_answers_
 look_answers_told : (s : List ℕ) (stage : look.LookStage) (a : MetaAnswer) → TellsFit (look.look_answers s stage a).1
 unfolding look.look_answers
 look_answers_told s look.Looking (answer.Many (Names names ∷ Bytes maxseq v ∷ Bytes alloc w ∷ [])) =
-    refused_told look.LookDone (λ x. (look.LookDone, Done x)) (look.looked s names maxseq v alloc w) (λ x. tt)
+    refused_told look.LookDone (λ x. (look.LookDone, Done x)) (look.look_values s names maxseq v alloc w) (λ x. tt)
 look_answers_told s look.Looking (answer.Failed zero NoNode) = tt
 look_answers_told s look.Looking (answer.Failed place w) = tt
 look_answers_told s stage a = tt

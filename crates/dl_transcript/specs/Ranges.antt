@@ -9,7 +9,7 @@ use Rattle.dl_text.specs.ListFields.{AreUpTo}
 use Rattle.dl_text.specs.NameFields.{IsName}
 use Rattle.dl_text.specs.Numbers.{IsWithin, most_u32, most_u64}
 use Rattle.dl_text.specs.PlaceFields.{IsPlaceFrom}
-use Rattle.dl_schedule.specs.declared.row_count.TheConstants.{MAX_ROWS}
+use Rattle.dl_schedule.specs.declared.up_to.TheConstants.{MAX_ROWS}
 use Rattle.dl_schedule.specs.StepLines.{IsClient, IsBookie, IsTxid, IsLink}
 use Rattle.dl_transcript.specs.declared.event.Event.{Event}
 use Rattle.dl_transcript.specs.declared.event.Event.TheVariants.{Joined, Expired, Created, Removed, Released, Whole, Writer, Took, Sent, Grow, Ack, Committed}

@@ -16,7 +16,7 @@ use Rattle.dl_text.specs.Refusals.{refusal_text}
 use Rattle.dl_text.specs.Words.{words_from}
 use Rattle.dl_text.specs.declared.refusal_word.RefusalWord.{RefusalWord}
 use Rattle.dl_text.specs.declared.refusal_word.RefusalWord.TheVariants as why
-use Rattle.dl_schedule.specs.declared.row_count.TheConstants.{MAX_ROWS}
+use Rattle.dl_schedule.specs.declared.up_to.TheConstants.{MAX_ROWS}
 use Rattle.dl_schedule.specs.StepReading.{nothing_at, client_at, bookie_at, txid_at, address_at, letters, other_letters}
 use Rattle.dl_transcript.specs.declared.event.Event.{Event}
 use Rattle.dl_transcript.specs.declared.event.Event.TheVariants.{Joined, Expired, Created, Removed, Released, Whole, Writer, Took, Sent, Grow, Ack, Committed}
