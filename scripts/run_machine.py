@@ -28,7 +28,7 @@ equations that no run used: each has to stand in the file of those that are not 
 there may have been used. With --wrong the wrong edits of a file are made one by one, and each has to be found. With --checker a
 crate is written in which the proof checker computes the transcripts of worked rows and random schedules, each of which has to be
 the model's: then `git init -q OUT`, and `rt check` in OUT/crates/rows. A schedule of some 200 lines is past its bound on steps."""
-import argparse, collections, json, multiprocessing, os, random, re, shutil, sys, tempfile, threading, time, types
+import argparse, collections, gc, json, multiprocessing, os, random, re, shutil, sys, tempfile, threading, time, types
 
 sys.path.insert(0, os.path.dirname(os.path.abspath(__file__)))
 import checker_rows, true_limits
@@ -342,6 +342,19 @@ ROWS = {
     + CLOSED + "seek 1 s oldest;settle;" + CUT + "read 1 10;" + asked(1, 2) + PURGED + "settle",
     "a read of a thousand rows, and of the rest": OPEN + ("set 0 1 %s;" % " ".join(["61"] * 64)) * 16
     + "flush 0;settle;commit 0;settle;seek 1 s oldest;settle;read 1 1000;settle;read 1 1000;settle;read 1 1000;settle",
+    "a recovery that comes to another ledger hears late answers of the first one": RECOVERED
+    + "join 2;recover 2 s;" + asked(2, 1, 2, 3) + """deliver c2 b0 1;deliver c2 b1 1;deliver b0 c2 1;deliver b1 c2 1;deliver c2 b0 2;
+    deliver c2 b1 2;deliver b0 c2 2;deliver b1 c2 2;""" + asked(2, 4, 5) + "truncate 2 s 2:0:0;" + asked(2, 6, 7) + "purge 2 s;" + asked(2, 8, 9, 10)
+    + "expire 1;open 2 s;" + asked(2, 11, 12, 13, 14, 15, 16) + asked(1, 5, 6, 7, 8, 9, 10) + """deliver c1 b2 1;sync 2;deliver b2 c1 1;deliver c1 b1 3;
+    deliver c1 b0 3;sync 1;sync 0;deliver b1 c1 3;deliver b0 c1 3;deliver c1 b2 2;deliver b2 c1 2;settle;mail""",
+    "a recovery hears late answers about the entry before": OPEN
+    + """append 0 1 61;flush 0;append 0 2 62;flush 0;deliver c0 b0 1;deliver c0 b0 2;sync 0;deliver c0 b1 1;deliver c0 b1 2;sync 1;deliver c0 b2 1;
+    deliver c0 b2 2;sync 2;recover 1 s;""" + asked(1, 1, 2, 3, 4) + """deliver c1 b0 1;deliver c1 b1 1;sync 0;sync 1;deliver b0 c1 1;deliver b1 c1 1;
+    deliver c1 b0 2;deliver c1 b1 2;deliver c1 b2 2;deliver b0 c1 2;deliver b1 c1 2;deliver c1 b0 3;deliver c1 b1 3;deliver c1 b2 3;deliver b0 c1 3;
+    deliver b1 c1 3;deliver b1 c1 2;deliver c1 b0 4;deliver b0 c1 4;deliver b2 c1 2;settle;mail""",
+    "a read hears a late answer about the entry before": OPEN
+    + "append 0 1 61;flush 0;append 0 2 62;flush 0;settle;commit 0;settle;seek 1 s oldest;settle;read 1 10;" + asked(1, 2, 3, 4)
+    + """deliver c1 b0 1;deliver c1 b1 1;deliver b0 c1 1;deliver b1 c1 1;deliver c1 b0 2;deliver c1 b1 2;deliver b0 c1 2;deliver b1 c1 2;settle""",
     "a close that is stopped inside the setting of its ledger's node": OPEN
     + """append 0 1 61;flush 0;settle;append 0 2 62;append 0 2 63;close 0;deliver c0 b0 2;deliver c0 b1 2;sync 0;sync 1;deliver b0 c0 2;
     deliver b1 c0 2;stopmeta 0 8 3 1;up m;settle;recover 1 s;settle;mail""",
@@ -626,6 +639,9 @@ def lines(s, seed):
 SEEN = "1 joined 0 1;1 joined 1 2;1 writer 0 s 1;1 took 0 1 s 5 61;1 took 0 2 s 6 62;2 grow s 1:0:0 5 0 1 61;2 grow s 1:0:1 6 0 2 62;"
 READING = SEEN + "3 opened 1 s 1:0:0;3 reading 1 s;"
 MOVED = SEEN + "3 closed s 1;3 point s 1:0:1;3 point s 2:0:0;4 opened 1 s txid 5;4 reading 1 s;"
+# rows at the last slot of an entry, and at the last one of a segment
+EDGE = """1 joined 0 1;1 took 0 1 s 5 61;1 took 0 2 s 5 62;1 grow s 1:0:4294967295 5 0 1 61;1 grow s 1:18446744073709551615:4294967295 5 0 2 62;
+    1 committed s 1:18446744073709551615:0;2 opened 0 s 1:0:0;"""
 REASONS = """expired 1;held 0;fenced 2;moved /a 1;nostream;streamexists;txidback 5 4;toolong 9;beyondend 1:0:0;nowriter;truncated 1:0:1;truncated 1:0:0;
     notempty 1;busy 3;windowfull;gaveup /a"""
 # what follows these lines, one transcript each
@@ -644,6 +660,10 @@ ENDS = {
     READING + "3 committed s 1:1:0;": "4 end 1 s;4 rows 1 s 1:0:0/5/61",
     READING + "4 rows 1 s 1:0:0/5/61;3 committed s 1:1:0;5 reading 1 s;": "6 end 1 s;6 rows 1 s 1:0:1/6/62;6 rows 1 s 1:0:0/5/61",
     SEEN + "3 committed s 1:1:0;3 opened 1 s 1:0:0;3 reading 1 s;": "4 end 1 s;4 grow s 1:0:2 6 0 3 62",
+    EDGE + "2 reading 0 s;2 rows 0 s 1:0:4294967295/5/61;3 reading 0 s;": """4 end 0 s;4 rows 0 s 1:18446744073709551615:4294967295/5/62;
+        4 rows 0 s 1:0:4294967295/5/61""",
+    EDGE + "2 reading 0 s;2 rows 0 s 1:0:4294967295/5/61 1:18446744073709551615:4294967295/5/62;3 reading 0 s;": """4 end 0 s;
+        4 rows 0 s 1:18446744073709551615:4294967295/5/62;4 rows 0 s 2:0:0/5/62""",
     MOVED: """5 rows 1 s 1:0:0/5/61;5 rows 1 s 1:0:1/6/62;5 rows 1 s 1:0:0/5/61 1:0:1/6/62;5 rows 1 s 2:0:0/6/62;5 end 1 s;5 refused 1 truncated 1:0:0;
         5 refused 1 truncated 1:0:1;5 refused 1 truncated 2:0:0;5 refused 1 truncated 2:0:1;5 refused 0 truncated 7:0:0;5 truncated 0 s 1:0:1;
         5 truncated 0 s 2:0:0;5 truncated 0 s 1:0:0""",
@@ -750,7 +770,7 @@ def write_rows(s, options):
     """Writes the crate in which the checker computes transcripts, each of which has to be the model's."""
     rows, most = [], options.count
     for name, text in judged(s, options):
-        if text.count(b"\n") <= options.longest and len(rows) < most:
+        if text.count(b"\n") <= options.longest and len(text) <= 100 * options.longest and len(rows) < most:
             term = checker_rows.with_input(s.antt, "replay_text input", text)
             rows.append((name, term, s.list(s.dlog.run(text)[0])))
     c, lemmas = checker_rows.build(s.antt, s.d.world, [TEXT_OF_RUN], rows)
@@ -777,6 +797,7 @@ def in_depth(run):
     """Runs where recursion may go deep; 0 where it came to its end."""
     sys.setrecursionlimit(10**9)
     threading.stack_size(1 << 30)
+    gc.disable()
     done = []
     t = threading.Thread(target=lambda: (run(), done.append(True)))
     t.start()

@@ -5,8 +5,9 @@ of them, messages, their bytes, bytes of the transcript, records of a client) be
 too few: in the definitions by the value from which a replay goes on, in the model by a limit as low as what it counts. The nodes
 begin loaded from lists. Entries of a megabyte share their bytes, so that full journals fit into memory.
 
-How many different entries and ledgers a list has is counted in Python here: the definition compares each with each. That the two
-counts are equal is tested on lists of a few items."""
+How many different entries and ledgers a list has is counted in Python here, since the definition compares each with each, and the
+length of a metadata item with a megabyte is that of the item without it and the megabyte's. That these say what the definitions
+say is tested on small lists and items."""
 import random
 from definitions import Differs, same
 from model_values import meta_item, message
@@ -33,7 +34,7 @@ class Loaded:
     """Both sides, loaded from the same lists: the batches and the queue of storage node 0, and the items of the metadata node."""
 
     def __init__(self, s):
-        self.s, self.shared = s, {}
+        self.s, self.shared, self.lengths = s, {}, {}
         f = s.d.function
         self.loaded, self.blank = f("dl_machine.States.loaded"), f("dl_machine.States.blank")
         self.replay_from, self.lines_of = f("dl_machine.Replays.replay_from"), f("dl_text.TextLines.lines_of")
@@ -42,6 +43,7 @@ class Loaded:
         """Bytes as a list, the same list for the same bytes."""
         if data not in self.shared:
             self.shared[data] = self.s.list(data)
+            self.lengths[id(self.shared[data])] = len(data)
         return self.shared[data]
 
     def item(self, x):
@@ -207,7 +209,8 @@ def nodes(s, told):
     for key, _, quick in kept:
         s.d.world.space[key] = quick
     try:
-        for name, run in (("pool", pool), ("index", index), ("ledgers", ledgers), ("queue", queue), ("journal of a storage node", journal)):
+        # the lengths of items are kept only while they are few: the journal comes before the index
+        for name, run in (("pool", pool), ("journal of a storage node", journal), ("queue", queue), ("ledgers", ledgers), ("index", index)):
             told["%s, true number: full and not full" % name] += run(s, Loaded(s))
         told["journal of the metadata node, true number: full and not full"] += meta_journal(s, Loaded(s))
         told["segments, true number: the last and none"] += segments(s, Loaded(s))
@@ -289,6 +292,23 @@ def journal(s, lists):
     return 2
 
 
+def measure_quickly(s, lists):
+    """Has the length of an item that sets shared bytes be that of the item without them, and theirs."""
+    made, slow = s.d.made, s.d.function("dl_rules_nodes.Items.meta_item_length")
+
+    def quick(x):
+        if x[0].name == "Ask" and x[3][0].name == "One" and x[3][1][0].name == "Set":
+            path, data, version = x[3][1][1:]
+            if id(data) in lists.lengths:
+                return slow(made["MetaItem.Ask"](x[1], x[2], made["MetaOp.One"](made["OneOp.Set"](path, (), version)))) + lists.lengths[id(data)]
+        return slow(x)
+
+    for n in (1, 255, 256, 3000):
+        x = lists.meta_item(("ask", 1, n, ("set", "/x", b"c" * n, None)))
+        same("the length of an item", quick(x), slow(x), "%d bytes" % n)
+    return quick
+
+
 def meta_journal(s, lists):
     """A metadata journal with room for just what a schedule asks, or for one byte less."""
     text, light = row(OPEN + "append 0 1 61;flush 0;settle;close 0;settle;expire 1;expire 2"), [("connect", 1), ("ask", 1, 1, ("create", "/x", b"", "lasting"))]
@@ -296,6 +316,9 @@ def meta_journal(s, lists):
     before = w.meta.size
     s.dlog.run(text, w)
     need, most = w.meta.size - before, s.machine.MAX_JOURNAL
+    key = "d%d" % s.d.world.definition("Rattle.dl_rules_nodes.specs.Items.meta_item_length").id
+    quick, slow = measure_quickly(s, lists), s.d.world.space[key]
+    s.d.world.space[key] = quick
     big, head = b"a" * (1 << 20), 13 + s.machine.Meta.item_size(("ask", 1, 1, ("set", "/x", b"", None)))
     for over in (0, 1):
         items = list(light)
@@ -304,6 +327,7 @@ def meta_journal(s, lists):
         want = lists.compared("journal of the metadata node", text, items=items)[1]
         if want[1] != (12 if over else 0):
             raise Differs("the journal of the metadata node has %d bytes too few and the status is %d" % (over, want[1]))
+    s.d.world.space[key] = slow
     return 2
 
 
