@@ -340,8 +340,6 @@ ROWS = {
     "a recovery whose segment is completed before it is looked at": ONE_ENTRY + "recover 1 s;" + asked(1, 1) + CLOSED + "settle",
     "a read whose segment is purged before it is looked at": ONE_ENTRY
     + CLOSED + "seek 1 s oldest;settle;" + CUT + "read 1 10;" + asked(1, 2) + PURGED + "settle",
-    "a read of a thousand rows, and of the rest": OPEN + ("set 0 1 %s;" % " ".join(["61"] * 64)) * 16
-    + "flush 0;settle;commit 0;settle;seek 1 s oldest;settle;read 1 1000;settle;read 1 1000;settle;read 1 1000;settle",
     "a recovery that comes to another ledger hears late answers of the first one": RECOVERED
     + "join 2;recover 2 s;" + asked(2, 1, 2, 3) + """deliver c2 b0 1;deliver c2 b1 1;deliver b0 c2 1;deliver b1 c2 1;deliver c2 b0 2;
     deliver c2 b1 2;deliver b0 c2 2;deliver b1 c2 2;""" + asked(2, 4, 5) + "truncate 2 s 2:0:0;" + asked(2, 6, 7) + "purge 2 s;" + asked(2, 8, 9, 10)
@@ -355,6 +353,11 @@ ROWS = {
     "a read hears a late answer about the entry before": OPEN
     + "append 0 1 61;flush 0;append 0 2 62;flush 0;settle;commit 0;settle;seek 1 s oldest;settle;read 1 10;" + asked(1, 2, 3, 4)
     + """deliver c1 b0 1;deliver c1 b1 1;deliver b0 c1 1;deliver b1 c1 1;deliver c1 b0 2;deliver c1 b1 2;deliver b0 c1 2;deliver b1 c1 2;settle""",
+    "a reply that comes again while a commit waits": OPEN
+    + "append 0 1 61;expire 1;seek 0 s oldest;deliver c0 m 8;deliver m c0 8;commit 0;deliver m c0 8;settle",
+    "a late answer to a read before": ONE_ENTRY
+    + "seek 1 s oldest;" + asked(1, 1) + "read 1 10;" + asked(1, 2, 3, 4) + """deliver c1 b0 1;deliver c1 b1 1;deliver b0 c1 1;deliver b1 c1 1;
+    deliver c1 b2 1;read 1 10;""" + asked(1, 5, 6, 7) + "deliver c1 b0 2;deliver b0 c1 2;deliver b2 c1 1;deliver c1 b1 2;deliver b1 c1 2;settle",
     "a close that is stopped inside the setting of its ledger's node": OPEN
     + """append 0 1 61;flush 0;settle;append 0 2 62;append 0 2 63;close 0;deliver c0 b0 2;deliver c0 b1 2;sync 0;sync 1;deliver b0 c0 2;
     deliver b1 c0 2;stopmeta 0 8 3 1;up m;settle;recover 1 s;settle;mail""",
@@ -390,15 +393,19 @@ def rows(s, seed):
     return {"rows": len(ROWS) + len(texts)}
 
 
+# reads of a thousand rows, and of the rest
+THOUSAND = OPEN + ("set 0 1 %s;" % " ".join(["61"] * 64)) * 16
+THOUSAND += "flush 0;settle;commit 0;settle;seek 1 s oldest;settle;read 1 1000;settle;read 1 1000;settle;read 1 1000;settle"
+
 # a whole entry has 8 bytes, a record in it 20, a set 4 and each member 4 besides
 LONGEST, ENTRY = 1040384, 1048576
 
 
 def big(s, seed):
-    """Payloads, sets and entries just at their limits and one byte past them."""
+    """Payloads, sets and entries just at their limits and one byte past them, and reads of as many rows as may be."""
     hexes = lambda n: "61" * n if n else "-"
     left = ENTRY - 8 - 20 - LONGEST - 20
-    texts = [x for x in model_rows(s) if len(x) >= 100000]
+    texts = [text_of(THOUSAND)] + [x for x in model_rows(s) if len(x) >= 100000]
     for more in (left, left + 1):
         texts.append(text_of(OPEN + "append 0 1 %s;append 0 2 %s;flush 0;settle" % (hexes(LONGEST), hexes(more))))
     for last in (LONGEST - 4 - 4 - 4, LONGEST - 4 - 4 - 4 + 1):
@@ -770,9 +777,11 @@ def write_rows(s, options):
     """Writes the crate in which the checker computes transcripts, each of which has to be the model's."""
     rows, most = [], options.count
     for name, text in judged(s, options):
-        if text.count(b"\n") <= options.longest and len(text) <= 100 * options.longest and len(rows) < most:
-            term = checker_rows.with_input(s.antt, "replay_text input", text)
-            rows.append((name, term, s.list(s.dlog.run(text)[0])))
+        if text.count(b"\n") > options.longest or len(rows) == most:
+            continue
+        out = s.dlog.run(text)[0]
+        if len(text) + len(out) <= 200 * options.longest:
+            rows.append((name, checker_rows.with_input(s.antt, "replay_text input", text), s.list(out)))
     c, lemmas = checker_rows.build(s.antt, s.d.world, [TEXT_OF_RUN], rows)
     checker_rows.write(c, lemmas, options.checker)
     print("%d rows of at most %d lines; the last is %s" % (len(rows), options.longest, rows[-1][0]))
