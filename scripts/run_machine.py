@@ -358,6 +358,10 @@ ROWS = {
     "a late answer to a read before": ONE_ENTRY
     + "seek 1 s oldest;" + asked(1, 1) + "read 1 10;" + asked(1, 2, 3, 4) + """deliver c1 b0 1;deliver c1 b1 1;deliver b0 c1 1;deliver b1 c1 1;
     deliver c1 b2 1;read 1 10;""" + asked(1, 5, 6, 7) + "deliver c1 b0 2;deliver b0 c1 2;deliver b2 c1 1;deliver c1 b1 2;deliver b1 c1 2;settle",
+    "an open hears late answers of its recovery while it looks again, allocates and starts": OPEN
+    + "expire 1;open 1 s;" + asked(1, 1, 2, 3, 4, 5, 6) + """deliver c1 b0 1;deliver c1 b1 1;deliver c1 b2 1;sync 0;sync 1;sync 2;deliver b0 c1 1;
+    deliver b1 c1 1;deliver c1 b0 2;deliver c1 b1 2;deliver b0 c1 2;deliver b1 c1 2;""" + asked(1, 7) + "deliver b2 c1 1;" + asked(1, 8) + "deliver b2 c1 1;"
+    + asked(1, 9) + "deliver b2 c1 1;" + asked(1, 10) + "deliver b2 c1 1;" + asked(1, 11) + "deliver b2 c1 1;settle;mail",
     "a close that is stopped inside the setting of its ledger's node": OPEN
     + """append 0 1 61;flush 0;settle;append 0 2 62;append 0 2 63;close 0;deliver c0 b0 2;deliver c0 b1 2;sync 0;sync 1;deliver b0 c0 2;
     deliver b1 c0 2;stopmeta 0 8 3 1;up m;settle;recover 1 s;settle;mail""",
