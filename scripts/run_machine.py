@@ -735,35 +735,49 @@ def legal(s, seed):
 # ---- failing devices -----------------------------------------------------------------------------------------------
 
 
-def faults(s, seed):
-    """What devices that fail leave has to keep every rule of a legal transcript: there is no model of them."""
-    r = random.Random(seed)
-    text = s.fuzz.schedule(seed)
-    s.profiles.clear()
+def run_with(s, text, luck_of, told):
+    """A run whose devices fail: what becomes of each atomic step is said by its line. Its transcript has to keep every rule."""
     antt, f = s.antt, s.d.function
-    words = text.splitlines(True)
-    steps = [s.parsed_line(s.list(x))[1] for x in words]
-    well, fails, falls, unmade = (s.d.world.con("Rattle.dl_machine.specs.Fates." + n) for n in ("Well", "Fails", "Falls", "Unmade"))
-    step_with, is_fit, blank = f("dl_machine.Runs.step_with"), f("dl_machine.Runs.is_fit"), f("dl_machine.States.blank")
-    state, out, met, fit = blank, [], 0, 0
-    for line, x in enumerate(steps, 1):
-        dice, begins_with_up = {}, words[line - 1].startswith(b"up ")
+    step_with, is_fit, state, out = f("dl_machine.Runs.step_with"), f("dl_machine.Runs.is_fit"), f("dl_machine.States.blank"), []
+    met, fit = 0, 0
+    for line, word in enumerate(text.splitlines(True), 1):
+        x, lucks = s.parsed_line(s.list(word))[1], {}
 
         def luck(i):
-            if i not in dice:
-                y = r.random() / (20 if begins_with_up else 1)
-                dice[i] = fails(y < 0.01) if y < 0.02 else falls() if y < 0.03 else unmade(antt.from_list([r.randrange(3)])) if y < 0.1 else well()
-            return dice[i]
+            if i not in lucks:
+                lucks[i] = luck_of(word)
+            return lucks[i]
 
         fit += is_fit(lambda b: True, luck, state, line, x)
         now = step_with(luck, state, line, x)
         state = now.f_state
-        for e in antt.to_list(now.f_events):
-            out.append(s.bytes(s.print_event(line, e)))
-        met += sum(v[0].name != "Well" for v in dice.values())
+        out += [s.bytes(s.print_event(line, e)) for e in antt.to_list(now.f_events)]
+        met += sum(v[0].name != "Well" for v in lucks.values())
     s.d.world.forget()
-    same("what is said of a run with failing devices", s.check.check(b"".join(out)), "legal", "seed %d" % seed)
+    same("what is said of a run with failing devices", s.check.check(b"".join(out)), "legal", told)
     return {"runs with failing devices": 1, "failures": met, "lines whose failures may be": fit}
+
+
+# a storage node is stopped inside a commit, and its first load fails
+STOPPED = OPEN + "append 0 1 61;flush 0;deliver c0 b0 1;deliver c0 b1 1;stop 0 3 %d;up b0;up b0;deliver c0 b0 1;settle;recover 1 s;settle"
+
+
+def faults(s, seed):
+    """What devices that fail leave has to keep every rule of a legal transcript: there is no model of them."""
+    r, told = random.Random(seed), collections.Counter()
+    text = s.fuzz.schedule(seed)
+    s.profiles.clear()
+    well, fails, falls, unmade = (s.d.world.con("Rattle.dl_machine.specs.Fates." + n) for n in ("Well", "Fails", "Falls", "Unmade"))
+
+    def any_luck(word):
+        y = r.random() / (20 if word.startswith(b"up ") else 1)
+        return fails(y < 0.01) if y < 0.02 else falls() if y < 0.03 else unmade(s.list([r.randrange(3)])) if y < 0.1 else well()
+
+    for kept, other in ((0, False), (0, True), (1, False), (1, True)) if seed % CHUNK == 0 else ():
+        first = [fails(other)]
+        told.update(run_with(s, text_of(STOPPED % kept), lambda word: first.pop() if first and word == b"up b0\n" else well(), "a failed load"))
+    told.update(run_with(s, text, any_luck, "seed %d" % seed))
+    return told
 
 
 # ---- the checker as a second judge ---------------------------------------------------------------------------------

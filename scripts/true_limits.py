@@ -60,7 +60,7 @@ class Loaded:
             return made["MetaItem.Ask"](x[1], x[2], made["MetaOp.One"](op))
         return meta_item(d, x)
 
-    def world(self, batches=(), queue=(), items=()):
+    def world(self, batches=(), queue=(), items=(), lost=()):
         """The model's world."""
         m = self.s.machine
         w = m.World()
@@ -71,9 +71,11 @@ class Loaded:
             w.bookies[0].keep(batch)
         for waiting in queue:
             assert w.bookies[0].put(*waiting) is None
+        for b in lost:
+            w.bookies[b].state = "lost"
         return w
 
-    def state(self, batches=(), queue=(), items=()):
+    def state(self, batches=(), queue=(), items=(), lost=()):
         """The definitions' state."""
         antt, d = self.s.antt, self.s.d
         record, from_list = antt.record, antt.from_list
@@ -84,7 +86,7 @@ class Loaded:
         first = record(first=0, batches=kept, queue=from_list(waiting))
         other = record(first=0, batches=(), queue=())
         held = [self.meta_item(x) for x in (("conf",) + CONF,) + tuple(items)]
-        nodes = from_list([(antt.SOME, first)] + [(antt.SOME, other)] * (CONF[0] - 1))
+        nodes = from_list([antt.NONE.value if b in lost else (antt.SOME, other if b else first) for b in range(CONF[0])])
         return self.loaded(nodes, record(first=0, items=from_list(held[::-1])))
 
     def going(self, state, **counts):
@@ -332,14 +334,14 @@ def meta_journal(s, lists):
 
 
 def segments(s, lists):
-    """The stream's next segment is the last one, or past it."""
+    """The stream's next segment is the last one, or past it; one storage node is lost."""
     m = s.machine
     made = [("create", "/streams/s" + p, x, "lasting") for p, x in (("", b""), ("/maxseq", b""), ("/cut", m.cut_bytes((1, 0, 0))), ("/alloc", m.alloc_bytes(None)))]
     made += [("create", "/streams/s" + p, b"", "lasting") for p in ("/lock", "/segs")]
     text = row("join 0;open 0 s;settle;append 0 1 61;flush 0;settle;close 0;settle;seek 0 s oldest;settle;read 0 1;settle;open 0 s;settle")
     for last in (9999999998, 9999999999):
         items = [("connect", 1), ("ask", 1, 1, ("multi", made)), ("ask", 1, 2, ("set", "/streams/s/maxseq", m.maxseq_bytes(last, 7), None))]
-        out = lists.compared("segments", text, items=items)[1][0]
+        out = lists.compared("segments", text, items=items, lost=[1])[1][0]
         if (b"gaveup /streams/s/maxseq" in out) is False or (b" writer " in out) != (last == 9999999998):
             raise Differs("segments: %r" % out)
     return 2
