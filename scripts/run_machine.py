@@ -336,7 +336,8 @@ ROWS = {
     "two recoveries that close a ledger at once": RECOVERED
     + "join 2;recover 2 s;" + asked(2, 1, 2, 3) + """deliver c2 b0 1;deliver c2 b1 1;deliver b0 c2 1;deliver b1 c2 1;deliver c2 b0 2;
     deliver c2 b1 2;deliver b0 c2 2;deliver b1 c2 2;""" + asked(1, 5) + asked(2, 4) + "settle;mail",
-    "two truncations at once": ONE_ENTRY + CLOSED + "truncate 0 s 1:0:1;truncate 1 s 2:0:0;" + asked(0, 11) + asked(1, 1) + asked(0, 12) + asked(1, 2) + "settle",
+    "two truncations at once": ONE_ENTRY
+    + CLOSED + "truncate 0 s 1:0:1;truncate 1 s 2:0:0;" + asked(0, 11) + asked(1, 1) + asked(0, 12) + asked(1, 2) + "settle",
     "a recovery whose segment is completed before it is looked at": ONE_ENTRY + "recover 1 s;" + asked(1, 1) + CLOSED + "settle",
     "a read whose segment is purged before it is looked at": ONE_ENTRY
     + CLOSED + "seek 1 s oldest;settle;" + CUT + "read 1 10;" + asked(1, 2) + PURGED + "settle",
@@ -500,7 +501,8 @@ def needs(s, text):
     """What a schedule needs of each thing whose limit ends a run."""
     w = s.machine.World()
     out = s.dlog.run(text, w)[0]
-    need = {"messages": len(w.letters), "message-bytes": w.message_bytes, "transcript": len(out), "lines": len(s.check.split_lines(text)), "schedule": len(text)}
+    need = {"messages": len(w.letters), "message-bytes": w.message_bytes, "transcript": len(out), "schedule": len(text)}
+    need["lines"] = len(s.check.split_lines(text))
     need["calls"] = max(taken_by(s, text).values(), default=0)
     need["sessions"] = w.meta.last if w.meta else 0
     need["journal"] = w.meta.size if w.meta else 0
@@ -566,11 +568,27 @@ def full_journals(s, told):
         told["journals of storage nodes"] += 1
 
 
+# a message comes again while it waits, and once it is durable, and a recovery copies
+REPEATED = OPEN + """append 0 1 61;flush 0;append 0 2 62;flush 0;deliver c0 b0 1;deliver c0 b0 1;deliver c0 b0 2;deliver c0 b0 2;sync 0;deliver c0 b0 2;
+    settle;recover 1 s;settle"""
+
+
+def repeated(s, told):
+    """What a storage node has no room for, at each of the first numbers; its queue is seen before a commit too."""
+    for name in ("pool", "index", "ledgers", "queue"):
+        for number in range(5):
+            with Limited(s, name, number):
+                for text in (REPEATED, REPEATED[: REPEATED.index("sync 0")]):
+                    compared(s, "a replay under the limit on %s" % name, text_of(text), "messages that come again, %d" % number)
+            told["messages that come again, under a limit on %s" % name] += 1
+
+
 def limits(s, seed):
     text, told = s.fuzz.schedule(seed), collections.Counter()
     free, need = s.dlog.run(text), needs(s, text)
     s.profiles.clear()
     if seed % 100 == 0:
+        repeated(s, told)
         full_journals(s, told)
     ending = ["messages", "message-bytes", "transcript", "lines", "schedule", "calls", "sessions", "journal"]
     for name in ending[seed % 4 :: 4]:
