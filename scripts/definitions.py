@@ -149,3 +149,22 @@ class Some:
 
     def __repr__(self):
         return "Some(%r)" % (self.value,)
+
+
+class Differs(Exception):
+    """Definitions and what they are compared with say different things."""
+
+
+def same(what, got, want, told):
+    """Compares what definitions say with what a model says: plain values, or a text, a status, a note and a state."""
+    if got == want:
+        return
+    if isinstance(got, tuple) and isinstance(got[0], bytes):
+        if got[:3] == want[:3]:
+            where = next(k for k in want[3] if got[3][k] != want[3][k])
+            got, want = "%s: %s" % (where, got[3][where]), "%s: %s" % (where, want[3][where])
+        else:
+            a, b = got[0].splitlines(), want[0].splitlines()
+            at = next((i for i, (x, y) in enumerate(zip(a, b)) if x != y), min(len(a), len(b)))
+            got, want = a[at : at + 1] + [got[1:3]], b[at : at + 1] + [want[1:3]]
+    raise Differs("%s\n  definitions: %.900r\n  model:       %.900r\n  at %s" % (what, got, want, told))

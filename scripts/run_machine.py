@@ -2,28 +2,37 @@
 """Runs the definitions of the machine beside a model of it that is written apart from them.
 
     run_machine.py TOOLS MODEL [--crates crates] [--part PART ..] [--seeds FROM TO] [--jobs N] [--used FILE]
-    run_machine.py TOOLS MODEL --unused FILE
-    run_machine.py TOOLS MODEL --wrong FILE [--crates crates]
+    run_machine.py TOOLS MODEL --unused FILE .. [--unreached scripts/unreached_rules.txt]
+    run_machine.py TOOLS MODEL --wrong scripts/wrong_rules.txt [--only WORD] [--seeds FROM TO] [--crates crates]
+    run_machine.py TOOLS MODEL --checker OUT [--seeds FROM TO] [--longest LINES] [--count N] [--crates crates]
 
 TOOLS is a folder with the module `antt`, which runs definitions, and MODEL one with the modules `dlog`, `machine`, `lines`,
-`check`, `fuzz` and `test_rows`. What is compared, byte by byte where it is text:
+`check`, `fuzz` and `test_rows`. It ends with what was counted, and with status 1 at the first difference. What is compared, byte
+by byte where it is text:
 
     rows     worked rows, those of this script and those of the model's tests: the transcript; the status with its numbers; the last
              state (each node's durable list, queue and mode, the letters and which were delivered, how far each ledger has grown)
-    big      the same of rows with payloads and entries at their limits
+    big      the same of rows with payloads and entries at their limits; minutes
     fuzz     the same of random schedules of every profile, a fifth of them spoilt
     limits   random schedules, each limit just as high as the schedule needs and one below: constants of the definitions and of the
-             model are replaced by small numbers, where a limit is out of a run's reach
+             model are replaced by small numbers
+    true     limits at their true numbers, just below and just above: the counts of a run by random schedules that begin just below
+             them, and, with seed 0, pool, index, ledgers, queue and both journals of nodes that are loaded from lists; minutes
     lines    lines of schedules, as they stand and spoilt: what they say, the column at which no line goes on, the spelling
-    legal    transcripts of random schedules, as they stand and spoilt: the place of the first fault, and the spelling of each event
+    legal    transcripts by hand, and those of random schedules, as they stand and spoilt: the place of the first fault, and the
+             spelling of each event
     faults   random schedules with devices that fail: what failed commits, looks and loads leave keeps every rule of a transcript
 
-With --used the equations that were used are added to a file; with --unused those are listed that no run with that file has used,
-and for each that is expected why. With --wrong the wrong edits of a file are made one by one, and each has to be found."""
-import argparse, collections, json, multiprocessing, os, random, re, shutil, sys, tempfile, threading, time, types
+With --used the equations that were used are added to a file (one for each run at a time); --unused reads such files and lists the
+equations that no run used: each has to stand in the file of those that are not reached, with its reason, and none that stands
+there may have been used. With --wrong the wrong edits of a file are made one by one, and each has to be found. With --checker a
+crate is written in which the proof checker computes the transcripts of worked rows and random schedules, each of which has to be
+the model's: then `git init -q OUT`, and `rt check` in OUT/crates/rows. A schedule of some 200 lines is past its bound on steps."""
+import argparse, collections, gc, json, multiprocessing, os, random, re, shutil, sys, tempfile, threading, time, types
 
 sys.path.insert(0, os.path.dirname(os.path.abspath(__file__)))
-from definitions import Definitions, Some, load
+import checker_rows, true_limits
+from definitions import Definitions, Differs, Some, load, same
 from model_values import item, meta_item, prepare, waiting
 
 CHUNK = 10
@@ -80,7 +89,7 @@ def count_equations(antt):
 
 # definitions whose values are kept, since they are asked for again and again at the same arguments
 KEPT = ["dl_rules_ledger.Writers.confirmed_count", "dl_rules_ledger.Writers.first_fence", "dl_quorum.WriteSets.write_set"]
-KEPT += ["dl_machine.Runs.turn", "dl_rules_stream.LogReaders.reader_started"]
+KEPT += ["dl_machine.Runs.turn", "dl_rules_stream.LogReaders.reader_started", "dl_rules_nodes.Items.item_length", "dl_rules_nodes.Items.meta_item_length"]
 
 # the events of the model's lines: the constructor, and the fields that are bytes (b), places (d) or plain (.)
 EVENTS = {
@@ -156,6 +165,13 @@ class Sides:
     def replayed(self, text):
         """The transcript, the status, the note and the last state, as definitions give them."""
         r = self.replay(self.list(text))
+        end = self.ended(r)
+        last = self.last_state(r.f_state) if end[1] != 12 else None
+        self.d.world.forget()
+        return end + (last,)
+
+    def ended(self, r):
+        """The transcript of a replay, the status and the note."""
         out, ended = self.bytes(r.f_text), r.f_ended
         kind = ended[0].name
         if kind == "Done":
@@ -164,13 +180,11 @@ class Sides:
             end = 2, "bad schedule: line %d column %d" % ended[1:]
         else:
             end = 12, "limit: %s %d" % (self.bytes(self.limit_text(ended[1].f_name)).decode(), ended[1].f_number)
-        last = self.last_state(r.f_state) if end[0] != 12 else None
-        self.d.world.forget()
-        return (out,) + end + (last,)
+        return (out,) + end
 
-    def wanted(self, text):
+    def wanted(self, text, world=None):
         """The same as the model gives it."""
-        w = self.machine.World()
+        w = world or self.machine.World()
         out, status, note = self.dlog.run(text, w)
         return out, status, note, self.model_state(w) if status != 12 else None
 
@@ -246,24 +260,6 @@ class Sides:
         return "badline %d" % bad if bad else "legal"
 
 
-class Differs(Exception):
-    pass
-
-
-def same(what, got, want, told):
-    if got == want:
-        return
-    if isinstance(got, tuple) and isinstance(got[0], bytes):
-        if got[:3] == want[:3]:
-            where = next(k for k in want[3] if got[3][k] != want[3][k])
-            got, want = "%s: %s" % (where, got[3][where]), "%s: %s" % (where, want[3][where])
-        else:
-            a, b = got[0].splitlines(), want[0].splitlines()
-            at = next((i for i, (x, y) in enumerate(zip(a, b)) if x != y), min(len(a), len(b)))
-            got, want = a[at : at + 1] + [got[1:3]], b[at : at + 1] + [want[1:3]]
-    raise Differs("%s\n  definitions: %.900r\n  model:       %.900r\n  at %s" % (what, got, want, told))
-
-
 def compared(s, what, text, told):
     """A replay on both sides."""
     want = s.wanted(text)
@@ -332,6 +328,41 @@ ROWS = {
     + "expire 1;open 1 s;" + asked(1, 1, 2, 3, 4, 5, 6) + """deliver c1 b0 1;deliver c1 b1 1;deliver c1 b2 1;sync 0;sync 1;sync 2;deliver b0 c1 1;
     deliver b1 c1 1;deliver c1 b0 2;deliver b0 c1 2;deliver c1 b1 2;deliver b1 c1 2;deliver b2 c1 1;settle;read 1 1;seek 1 s txid 2;settle;read 1 1;
     settle;append 1 1 61;flush 1;settle;commit 1;settle;read 1 1000;settle""",
+    "orders on a stream that is not there, and a read of one that was removed": """setup 3 3 3 2;join 0;recover 0 s;settle;open 0 s;settle;
+    seek 0 s oldest;settle;truncate 0 s 2:0:0;settle;purge 0 s;settle;remove 0 s;settle;create 0 s;settle;seek 0 s oldest;settle;remove 0 s;settle;
+    read 0 1;settle;create 0 s;settle;read 0 1;settle;recover 0 s;settle""",
+    "two recoveries that mark a ledger at once": OPEN
+    + "append 0 1 61;flush 0;join 2;recover 1 s;recover 2 s;" + asked(1, 1, 2, 3) + asked(2, 1, 2, 3) + asked(1, 4) + asked(2, 4) + "settle;mail",
+    "two recoveries that close a ledger at once": RECOVERED
+    + "join 2;recover 2 s;" + asked(2, 1, 2, 3) + """deliver c2 b0 1;deliver c2 b1 1;deliver b0 c2 1;deliver b1 c2 1;deliver c2 b0 2;
+    deliver c2 b1 2;deliver b0 c2 2;deliver b1 c2 2;""" + asked(1, 5) + asked(2, 4) + "settle;mail",
+    "two truncations at once": ONE_ENTRY
+    + CLOSED + "truncate 0 s 1:0:1;truncate 1 s 2:0:0;" + asked(0, 11) + asked(1, 1) + asked(0, 12) + asked(1, 2) + "settle",
+    "a recovery whose segment is completed before it is looked at": ONE_ENTRY + "recover 1 s;" + asked(1, 1) + CLOSED + "settle",
+    "a read whose segment is purged before it is looked at": ONE_ENTRY
+    + CLOSED + "seek 1 s oldest;settle;" + CUT + "read 1 10;" + asked(1, 2) + PURGED + "settle",
+    "a recovery that comes to another ledger hears late answers of the first one": RECOVERED
+    + "join 2;recover 2 s;" + asked(2, 1, 2, 3) + """deliver c2 b0 1;deliver c2 b1 1;deliver b0 c2 1;deliver b1 c2 1;deliver c2 b0 2;
+    deliver c2 b1 2;deliver b0 c2 2;deliver b1 c2 2;""" + asked(2, 4, 5) + "truncate 2 s 2:0:0;" + asked(2, 6, 7) + "purge 2 s;" + asked(2, 8, 9, 10)
+    + "expire 1;open 2 s;" + asked(2, 11, 12, 13, 14, 15, 16) + asked(1, 5, 6, 7, 8, 9, 10) + """deliver c1 b2 1;sync 2;deliver b2 c1 1;deliver c1 b1 3;
+    deliver c1 b0 3;sync 1;sync 0;deliver b1 c1 3;deliver b0 c1 3;deliver c1 b2 2;deliver b2 c1 2;settle;mail""",
+    "a recovery hears late answers about the entry before": OPEN
+    + """append 0 1 61;flush 0;append 0 2 62;flush 0;deliver c0 b0 1;deliver c0 b0 2;sync 0;deliver c0 b1 1;deliver c0 b1 2;sync 1;deliver c0 b2 1;
+    deliver c0 b2 2;sync 2;recover 1 s;""" + asked(1, 1, 2, 3, 4) + """deliver c1 b0 1;deliver c1 b1 1;sync 0;sync 1;deliver b0 c1 1;deliver b1 c1 1;
+    deliver c1 b0 2;deliver c1 b1 2;deliver c1 b2 2;deliver b0 c1 2;deliver b1 c1 2;deliver c1 b0 3;deliver c1 b1 3;deliver c1 b2 3;deliver b0 c1 3;
+    deliver b1 c1 3;deliver b1 c1 2;deliver c1 b0 4;deliver b0 c1 4;deliver b2 c1 2;settle;mail""",
+    "a read hears a late answer about the entry before": OPEN
+    + "append 0 1 61;flush 0;append 0 2 62;flush 0;settle;commit 0;settle;seek 1 s oldest;settle;read 1 10;" + asked(1, 2, 3, 4)
+    + """deliver c1 b0 1;deliver c1 b1 1;deliver b0 c1 1;deliver b1 c1 1;deliver c1 b0 2;deliver c1 b1 2;deliver b0 c1 2;deliver b1 c1 2;settle""",
+    "a reply that comes again while a commit waits": OPEN
+    + "append 0 1 61;expire 1;seek 0 s oldest;deliver c0 m 8;deliver m c0 8;commit 0;deliver m c0 8;settle",
+    "a late answer to a read before": ONE_ENTRY
+    + "seek 1 s oldest;" + asked(1, 1) + "read 1 10;" + asked(1, 2, 3, 4) + """deliver c1 b0 1;deliver c1 b1 1;deliver b0 c1 1;deliver b1 c1 1;
+    deliver c1 b2 1;read 1 10;""" + asked(1, 5, 6, 7) + "deliver c1 b0 2;deliver b0 c1 2;deliver b2 c1 1;deliver c1 b1 2;deliver b1 c1 2;settle",
+    "an open hears late answers of its recovery while it looks again, allocates and starts": OPEN
+    + "expire 1;open 1 s;" + asked(1, 1, 2, 3, 4, 5, 6) + """deliver c1 b0 1;deliver c1 b1 1;deliver c1 b2 1;sync 0;sync 1;sync 2;deliver b0 c1 1;
+    deliver b1 c1 1;deliver c1 b0 2;deliver c1 b1 2;deliver b0 c1 2;deliver b1 c1 2;""" + asked(1, 7) + "deliver b2 c1 1;" + asked(1, 8) + "deliver b2 c1 1;"
+    + asked(1, 9) + "deliver b2 c1 1;" + asked(1, 10) + "deliver b2 c1 1;" + asked(1, 11) + "deliver b2 c1 1;settle;mail",
     "a close that is stopped inside the setting of its ledger's node": OPEN
     + """append 0 1 61;flush 0;settle;append 0 2 62;append 0 2 63;close 0;deliver c0 b0 2;deliver c0 b1 2;sync 0;sync 1;deliver b0 c0 2;
     deliver b1 c0 2;stopmeta 0 8 3 1;up m;settle;recover 1 s;settle;mail""",
@@ -367,15 +398,19 @@ def rows(s, seed):
     return {"rows": len(ROWS) + len(texts)}
 
 
+# reads of a thousand rows, and of the rest
+THOUSAND = OPEN + ("set 0 1 %s;" % " ".join(["61"] * 64)) * 16
+THOUSAND += "flush 0;settle;commit 0;settle;seek 1 s oldest;settle;read 1 1000;settle;read 1 1000;settle;read 1 1000;settle"
+
 # a whole entry has 8 bytes, a record in it 20, a set 4 and each member 4 besides
 LONGEST, ENTRY = 1040384, 1048576
 
 
 def big(s, seed):
-    """Payloads, sets and entries just at their limits and one byte past them."""
+    """Payloads, sets and entries just at their limits and one byte past them, and reads of as many rows as may be."""
     hexes = lambda n: "61" * n if n else "-"
     left = ENTRY - 8 - 20 - LONGEST - 20
-    texts = [x for x in model_rows(s) if len(x) >= 100000]
+    texts = [text_of(THOUSAND)] + [x for x in model_rows(s) if len(x) >= 100000]
     for more in (left, left + 1):
         texts.append(text_of(OPEN + "append 0 1 %s;append 0 2 %s;flush 0;settle" % (hexes(LONGEST), hexes(more))))
     for last in (LONGEST - 4 - 4 - 4, LONGEST - 4 - 4 - 4 + 1):
@@ -466,7 +501,8 @@ def needs(s, text):
     """What a schedule needs of each thing whose limit ends a run."""
     w = s.machine.World()
     out = s.dlog.run(text, w)[0]
-    need = {"messages": len(w.letters), "message-bytes": w.message_bytes, "transcript": len(out), "lines": len(s.check.split_lines(text)), "schedule": len(text)}
+    need = {"messages": len(w.letters), "message-bytes": w.message_bytes, "transcript": len(out), "schedule": len(text)}
+    need["lines"] = len(s.check.split_lines(text))
     need["calls"] = max(taken_by(s, text).values(), default=0)
     need["sessions"] = w.meta.last if w.meta else 0
     need["journal"] = w.meta.size if w.meta else 0
@@ -488,19 +524,20 @@ def taken_by(s, text):
     return most
 
 
-def stopped(s, text, name, number):
+def stopped(s, text, name, number, world=None):
     """The replay by the model up to the first line at which records, or sessions, would pass a number."""
-    w, kept = s.machine.World(), []
+    world = world or s.machine.World
+    w, kept = world(), []
     for i, line in enumerate(s.check.split_lines(text), 1):
         step = s.lines.parse_line(line)
         if name == "calls" and step[0] in ("append", "set") and w.b is not None and step[1] in w.clients:
             if w.taken.get(step[1], 0) + records(step) > number:
-                return s.dlog.run(b"".join(kept))[0], 12, "limit: calls %d" % number, None
+                return s.dlog.run(b"".join(kept), world())[0], 12, "limit: calls %d" % number, None
         if name == "sessions" and step[0] == "join" and w.b is not None and w.meta.state == "up" and w.meta.last >= number:
             return s.dlog.run(b"".join(kept))[0], 12, "limit: sessions %d" % number, None
         w.step(i, step)
         kept.append(line)
-    return s.wanted(text)
+    return s.wanted(text, world())
 
 
 def least(s, text, name, free):
@@ -531,11 +568,27 @@ def full_journals(s, told):
         told["journals of storage nodes"] += 1
 
 
+# a message comes again while it waits, and once it is durable, and a recovery copies
+REPEATED = OPEN + """append 0 1 61;flush 0;append 0 2 62;flush 0;deliver c0 b0 1;deliver c0 b0 1;deliver c0 b0 2;deliver c0 b0 2;sync 0;deliver c0 b0 2;
+    settle;recover 1 s;settle"""
+
+
+def repeated(s, told):
+    """What a storage node has no room for, at each of the first numbers; its queue is seen before a commit too."""
+    for name in ("pool", "index", "ledgers", "queue"):
+        for number in range(5):
+            with Limited(s, name, number):
+                for text in (REPEATED, REPEATED[: REPEATED.index("sync 0")]):
+                    compared(s, "a replay under the limit on %s" % name, text_of(text), "messages that come again, %d" % number)
+            told["messages that come again, under a limit on %s" % name] += 1
+
+
 def limits(s, seed):
     text, told = s.fuzz.schedule(seed), collections.Counter()
     free, need = s.dlog.run(text), needs(s, text)
     s.profiles.clear()
     if seed % 100 == 0:
+        repeated(s, told)
         full_journals(s, told)
     ending = ["messages", "message-bytes", "transcript", "lines", "schedule", "calls", "sessions", "journal"]
     for name in ending[seed % 4 :: 4]:
@@ -554,6 +607,15 @@ def limits(s, seed):
             with Limited(s, name, number):
                 compared(s, "a replay under the limit on %s" % name, text, "seed %d, %d" % (seed, number))
             told["%s %s" % (name, "just enough" if number == n else "one too few")] += 1
+    return told
+
+
+def true(s, seed):
+    """The limits at their true numbers: the nodes once, and the counts of a run by random schedules."""
+    told = collections.Counter()
+    if seed == 0:
+        true_limits.nodes(s, told)
+    true_limits.counts(s, seed, told, sys.modules[__name__])
     return told
 
 
@@ -603,6 +665,51 @@ def lines(s, seed):
 # ---- transcripts ---------------------------------------------------------------------------------------------------
 
 
+SEEN = "1 joined 0 1;1 joined 1 2;1 writer 0 s 1;1 took 0 1 s 5 61;1 took 0 2 s 6 62;2 grow s 1:0:0 5 0 1 61;2 grow s 1:0:1 6 0 2 62;"
+READING = SEEN + "3 opened 1 s 1:0:0;3 reading 1 s;"
+MOVED = SEEN + "3 closed s 1;3 point s 1:0:1;3 point s 2:0:0;4 opened 1 s txid 5;4 reading 1 s;"
+# rows at the last slot of an entry, and at the last one of a segment
+EDGE = """1 joined 0 1;1 took 0 1 s 5 61;1 took 0 2 s 5 62;1 grow s 1:0:4294967295 5 0 1 61;1 grow s 1:18446744073709551615:4294967295 5 0 2 62;
+    1 committed s 1:18446744073709551615:0;2 opened 0 s 1:0:0;"""
+REASONS = """expired 1;held 0;fenced 2;moved /a 1;nostream;streamexists;txidback 5 4;toolong 9;beyondend 1:0:0;nowriter;truncated 1:0:1;truncated 1:0:0;
+    notempty 1;busy 3;windowfull;gaveup /a"""
+# what follows these lines, one transcript each
+ENDS = {
+    SEEN: """3 grow s 1:0:1 6 0 3 62;3 grow s 1:0:2 6 0 0 62;3 grow s 1:0:2 6 0 2 62;3 grow s 1:1:0 6 0 3 62;3 ack 0 1 1:0:0;3 ack 0 0 1:0:0;3 ack 0 3 1:0:0;
+        3 ack 0 1 1:0:1;3 ack 1 1 1:0:0;3 committed s 1:1:0;3 committed s 1:1:1;3 committed s 3:0:0;3 recovered 0 s 1:1:0;3 recovered 0 s 0:0:0;
+        3 point s 2:0:0;3 point s 1:0:0;3 point s 2:0:1;3 truncated 0 s 1:0:0;3 writer 0 s 1;3 writer 0 s 2;3 writer 0 s 0;3 reading 1 s;3 end 1 s;
+        3 rows 1 s 1:0:0/5/61;3 refused 1 truncated 1:0:0;3 mail c0 m 1;3 none;3 joined 0 4;3 joined 0 3;3 expired 0;3 expired 1;3 expired 3;3 sent 0 1:0;
+        3 created 0 s;3 removed 0 s;3 released 0 s;3 whole 0 s;3 purged 0 s 1;2 none;1 none;3 closed s 2;3 closed s 1;3 took 0 2 s 5 61;3 took 0 3 t 1 -""",
+    SEEN + "3 closed s 1;3 recovered 0 s 1:1:0;": """4 recovered 1 s 1:1:0;4 recovered 1 s 1:2:0;4 recovered 1 s 1:0:0;4 recovered 1 s 2:0:0;4 writer 1 s 2;
+        4 grow s 1:1:0 6 0 2 62;4 point s 2:0:0;4 point s 2:0:1""",
+    SEEN + "3 opened 1 s 1:0:0;": "4 refused 1 truncated 1:0:1;4 end 1 s;4 rows 1 s 1:0:0/5/61;4 reading 1 t;4 reading 0 s;4 reading 1 s",
+    READING: """4 rows 1 s 1:0:0/5/61;4 rows 1 s 1:0:0/5/61 1:0:1/6/62;4 rows 1 s 1:0:0/5/61 1:0:1/6/62 1:0:2/6/62;4 rows 1 s 1:0:1/6/62;
+        4 rows 1 s 1:0:0/5/62;4 rows 1 s 1:0:0/6/61;4 rows 1 s 1:0:0/5/-;4 rows 1 s 1:0:0/5/61 1:0:1/6/63;4 rows 1 t 1:0:0/5/61;4 end 1 t;4 end 1 s;
+        4 reading 1 s;4 opened 1 s 1:0:1;4 joined 1 3;4 refused 0 nostream""",
+    READING + "3 committed s 1:1:0;": "4 end 1 s;4 rows 1 s 1:0:0/5/61",
+    READING + "4 rows 1 s 1:0:0/5/61;3 committed s 1:1:0;5 reading 1 s;": "6 end 1 s;6 rows 1 s 1:0:1/6/62;6 rows 1 s 1:0:0/5/61",
+    SEEN + "3 committed s 1:1:0;3 opened 1 s 1:0:0;3 reading 1 s;": "4 end 1 s;4 grow s 1:0:2 6 0 3 62",
+    EDGE + "2 reading 0 s;2 rows 0 s 1:0:4294967295/5/61;3 reading 0 s;": """4 end 0 s;4 rows 0 s 1:18446744073709551615:4294967295/5/62;
+        4 rows 0 s 1:0:4294967295/5/61""",
+    EDGE + "2 reading 0 s;2 rows 0 s 1:0:4294967295/5/61 1:18446744073709551615:4294967295/5/62;3 reading 0 s;": """4 end 0 s;
+        4 rows 0 s 1:18446744073709551615:4294967295/5/62;4 rows 0 s 2:0:0/5/62""",
+    MOVED: """5 rows 1 s 1:0:0/5/61;5 rows 1 s 1:0:1/6/62;5 rows 1 s 1:0:0/5/61 1:0:1/6/62;5 rows 1 s 2:0:0/6/62;5 end 1 s;5 refused 1 truncated 1:0:0;
+        5 refused 1 truncated 1:0:1;5 refused 1 truncated 2:0:0;5 refused 1 truncated 2:0:1;5 refused 0 truncated 7:0:0;5 truncated 0 s 1:0:1;
+        5 truncated 0 s 2:0:0;5 truncated 0 s 1:0:0""",
+}
+
+
+def transcripts():
+    """Transcripts that show what each rule allows and refuses; each refusal comes while a read is under way, and then the read ends or begins."""
+    cut = lambda text: [x.strip() for x in text.split(";") if x.strip()]
+    for begin, ends in ENDS.items():
+        yield from ([*cut(begin), x] for x in cut(ends))
+    for why in cut(REASONS):
+        for end in ("5 end 1 s", "5 reading 1 s", "5 rows 1 s 1:0:0/5/61"):
+            yield [*cut(READING), "4 refused 1 " + why, end]
+            yield [*cut(MOVED), "5 refused 1 " + why, end]
+
+
 def spoilt(s, r, text):
     """A transcript with a line lost, twice, moved or changed."""
     x = text.splitlines(True)
@@ -629,6 +736,11 @@ def legal(s, seed):
     r, told = random.Random(seed), collections.Counter()
     text = s.dlog.run(s.fuzz.schedule(seed))[0]
     s.profiles.clear()
+    for x in transcripts() if seed % CHUNK == 0 else ():
+        t = "".join(line + "\n" for line in x).encode()
+        want = s.check.check(t)
+        same("what is said of a transcript", s.said(t), want, t.decode())
+        told["rows of transcripts that are " + want.split()[0]] += 1
     for i in range(8):
         t = text if i == 0 or not text else spoilt(s, r, text)
         want = s.check.check(t)
@@ -641,40 +753,79 @@ def legal(s, seed):
 # ---- failing devices -----------------------------------------------------------------------------------------------
 
 
-def faults(s, seed):
-    """What devices that fail leave has to keep every rule of a legal transcript: there is no model of them."""
-    r = random.Random(seed)
-    text = s.fuzz.schedule(seed)
-    s.profiles.clear()
+def run_with(s, text, luck_of, told):
+    """A run whose devices fail: what becomes of each atomic step is said by its line. Its transcript has to keep every rule."""
     antt, f = s.antt, s.d.function
-    words = text.splitlines(True)
-    steps = [s.parsed_line(s.list(x))[1] for x in words]
-    well, fails, falls, unmade = (s.d.world.con("Rattle.dl_machine.specs.Fates." + n) for n in ("Well", "Fails", "Falls", "Unmade"))
-    step_with, is_fit, blank = f("dl_machine.Runs.step_with"), f("dl_machine.Runs.is_fit"), f("dl_machine.States.blank")
-    state, out, met, fit = blank, [], 0, 0
-    for line, x in enumerate(steps, 1):
-        dice, begins_with_up = {}, words[line - 1].startswith(b"up ")
+    step_with, is_fit, state, out = f("dl_machine.Runs.step_with"), f("dl_machine.Runs.is_fit"), f("dl_machine.States.blank"), []
+    met, fit = 0, 0
+    for line, word in enumerate(text.splitlines(True), 1):
+        x, lucks = s.parsed_line(s.list(word))[1], {}
 
         def luck(i):
-            if i not in dice:
-                y = r.random() / (20 if begins_with_up else 1)
-                dice[i] = fails(y < 0.01) if y < 0.02 else falls() if y < 0.03 else unmade(antt.from_list([r.randrange(3)])) if y < 0.1 else well()
-            return dice[i]
+            if i not in lucks:
+                lucks[i] = luck_of(word)
+            return lucks[i]
 
         fit += is_fit(lambda b: True, luck, state, line, x)
         now = step_with(luck, state, line, x)
         state = now.f_state
-        for e in antt.to_list(now.f_events):
-            out.append(s.bytes(s.print_event(line, e)))
-        met += sum(v[0].name != "Well" for v in dice.values())
+        out += [s.bytes(s.print_event(line, e)) for e in antt.to_list(now.f_events)]
+        met += sum(v[0].name != "Well" for v in lucks.values())
     s.d.world.forget()
-    same("what is said of a run with failing devices", s.check.check(b"".join(out)), "legal", "seed %d" % seed)
+    same("what is said of a run with failing devices", s.check.check(b"".join(out)), "legal", told)
     return {"runs with failing devices": 1, "failures": met, "lines whose failures may be": fit}
+
+
+# a storage node is stopped inside a commit, and its first load fails
+STOPPED = OPEN + "append 0 1 61;flush 0;deliver c0 b0 1;deliver c0 b1 1;stop 0 3 %d;up b0;up b0;deliver c0 b0 1;settle;recover 1 s;settle"
+
+
+def faults(s, seed):
+    """What devices that fail leave has to keep every rule of a legal transcript: there is no model of them."""
+    r, told = random.Random(seed), collections.Counter()
+    text = s.fuzz.schedule(seed)
+    s.profiles.clear()
+    well, fails, falls, unmade = (s.d.world.con("Rattle.dl_machine.specs.Fates." + n) for n in ("Well", "Fails", "Falls", "Unmade"))
+
+    def any_luck(word):
+        y = r.random() / (20 if word.startswith(b"up ") else 1)
+        return fails(y < 0.01) if y < 0.02 else falls() if y < 0.03 else unmade(s.list([r.randrange(3)])) if y < 0.1 else well()
+
+    for kept, other in ((0, False), (0, True), (1, False), (1, True)) if seed % CHUNK == 0 else ():
+        first = [fails(other)]
+        told.update(run_with(s, text_of(STOPPED % kept), lambda word: first.pop() if first and word == b"up b0\n" else well(), "a failed load"))
+    told.update(run_with(s, text, any_luck, "seed %d" % seed))
+    return told
+
+
+# ---- the checker as a second judge ---------------------------------------------------------------------------------
+
+TEXT_OF_RUN = "Rattle.dl_machine.specs.Replays.{replay_text}"
+
+
+def judged(s, options):
+    """The schedules that the checker is to run: worked rows, and random ones of at most so many lines."""
+    yield from (("row_%d" % i, text) for i, text in enumerate([text_of(x) for x in ROWS.values()] + model_rows(s)))
+    yield from (("seed_%d" % seed, s.fuzz.schedule(seed)) for seed in range(*options.seeds))
+
+
+def write_rows(s, options):
+    """Writes the crate in which the checker computes transcripts, each of which has to be the model's."""
+    rows, most = [], options.count
+    for name, text in judged(s, options):
+        if text.count(b"\n") > options.longest or len(rows) == most:
+            continue
+        out = s.dlog.run(text)[0]
+        if len(text) + len(out) <= 200 * options.longest:
+            rows.append((name, checker_rows.with_input(s.antt, "replay_text input", text), s.list(out)))
+    c, lemmas = checker_rows.build(s.antt, s.d.world, [TEXT_OF_RUN], rows)
+    checker_rows.write(c, lemmas, options.checker)
+    print("%d rows of at most %d lines; the last is %s" % (len(rows), options.longest, rows[-1][0]))
 
 
 # ---- all of it -----------------------------------------------------------------------------------------------------
 
-PARTS = {"rows": rows, "fuzz": fuzz, "limits": limits, "lines": lines, "legal": legal, "faults": faults, "big": big}
+PARTS = {"rows": rows, "fuzz": fuzz, "limits": limits, "true": true, "lines": lines, "legal": legal, "faults": faults, "big": big}
 ONCE = ("rows", "big")
 KEPT_SIDES = {}
 
@@ -685,6 +836,18 @@ def sides(options):
     if key not in KEPT_SIDES:
         KEPT_SIDES[key] = Sides(*key)
     return KEPT_SIDES[key]
+
+
+def in_depth(run):
+    """Runs where recursion may go deep; 0 where it came to its end."""
+    sys.setrecursionlimit(10**9)
+    threading.stack_size(1 << 30)
+    gc.disable()
+    done = []
+    t = threading.Thread(target=lambda: (run(), done.append(True)))
+    t.start()
+    t.join()
+    return 0 if done else 1
 
 
 def work(args):
@@ -703,11 +866,7 @@ def work(args):
             fault = "UNREAD: %s" % x
         out.append((told, USED.copy(), set(s.d.world.space.get("keys", [])), fault))
 
-    sys.setrecursionlimit(10**9)
-    threading.stack_size(1 << 30)
-    t = threading.Thread(target=run)
-    t.start()
-    t.join()
+    in_depth(run)
     return out[0] if out else ({}, set(), set(), "%s: no answer for seeds %s" % (part, seeds))
 
 
@@ -747,80 +906,55 @@ def keep_used(path, used, known):
         json.dump({"used": sorted(old[0] | used), "known": sorted(old[1] | known)}, f)
 
 
-# why no run is expected to use these definitions in full: each with the crate and the file before it
-EXPECTED = {
-    "an atomic step tests again what its line has tested, which is `none` otherwise": """dl_machine.Atoms.client_takes dl_machine.Atoms.delivers
-        dl_machine.Atoms.ends dl_machine.Atoms.faints dl_machine.Atoms.joins dl_machine.Atoms.killed_node dl_machine.Atoms.risen_node
-        dl_machine.Atoms.sets_up dl_machine.Atoms.stopped_node dl_machine.Atoms.stops_meta dl_machine.Atoms.stops_msg dl_machine.Atoms.stops_request
-        dl_machine.Atoms.loosened_node dl_machine.Fates.may_look dl_machine.Limits.past_delivery dl_machine.Lines.at_place dl_machine.Lines.idle_order
-        dl_machine.Lines.idle_in dl_machine.Lines.place_of dl_machine.Lines.request_would_run dl_machine.States.bookies_of
-        dl_rules_client.Orders.begins_read dl_rules_client.Orders.read_hears""",
-    "only lines of clients are asked for their client, and a settle for its turns": """dl_machine.Lines.client_in dl_machine.Lines.idle_client
-        dl_machine.Lines.order_of dl_machine.Lines.plain_atoms dl_rules_client.Clients.takes_order""",
-    "no message of this kind comes to this receiver, or from this sender": """dl_machine.Atoms.meta_takes dl_machine.Atoms.takes_letter
-        dl_rules_client.Clients.bookie_in dl_rules_client.Clients.takes_msg dl_rules_nodes.Bookies.look_answer""",
-    "the bound on the turns of a settle is never met": "dl_machine.Runs.settles dl_machine.Runs.settles_fit",
-    "a closed ledger is that of the segment in progress that names it, and a point is set in a stream's own node": """dl_machine.Growth.closed_count
-        dl_machine.Growth.closing_at dl_machine.Growth.closing_of dl_machine.Growth.first_in dl_machine.Growth.point_events
-        dl_machine.Growth.stream_by dl_machine.Growth.stream_in""",
-    "a client's request waits for one reply, of the kind that it asks for; what waits for its log hears nothing else": """
-        dl_rules_client.Clients.reply_hears dl_rules_client.Orders.order_hears dl_rules_stream.Allocations.allocation_answers
-        dl_rules_stream.Closes.close_answers dl_rules_stream.LedgerRecoveries.recovery_answers dl_rules_stream.Locks.lock_answers
-        dl_rules_stream.LogReaders.read_answers dl_rules_stream.Looks.look_answers dl_rules_stream.Makes.make_answers dl_rules_stream.Opens.last_version
-        dl_rules_stream.Opens.maxseq_version_in dl_rules_stream.Opens.open_hears dl_rules_stream.Opens.start_answers dl_rules_stream.Opens.version_in
-        dl_rules_stream.Purges.purge_answers dl_rules_stream.Recovers.recover_hears dl_rules_stream.Removes.remove_answers
-        dl_rules_stream.Seeks.seek_answers dl_rules_stream.SegmentRecoveries.segment_answers dl_rules_stream.SegmentRecoveries.is_completed
-        dl_rules_stream.Truncates.truncate_answers""",
-    "these failures come only from files that no run writes: nodes that are gone or have other bytes, entries that are none": """
-        dl_rules_stream.LedgerRecoveries.after_move dl_rules_stream.Listings.is_named dl_rules_stream.Listings.member_in
-        dl_rules_stream.Listings.segment_by dl_rules_stream.Listings.segment_in dl_rules_stream.Listings.ten_digits_in
-        dl_rules_stream.LogReaders.after_gone dl_rules_stream.LogReaders.is_gone_again dl_rules_stream.LogReaders.rows_in
-        dl_rules_stream.Orders.or_gave_up dl_rules_stream.Orders.or_refused dl_rules_stream.Orders.◌>>=◌ dl_rules_stream.Requests.path_in
-        dl_rules_stream.Requests.path_nth dl_rules_stream.SegmentRecoveries.end_by dl_rules_stream.SegmentRecoveries.end_in
-        dl_rules_stream.SegmentRecoveries.not_completed dl_record.Building.last_of dl_record.Reading dl_codec.Fields.number_at dl_fields.Readers.whole_field
-        dl_formats.Reading.fault_at dl_formats.Keys.parts_of""",
-    "names of children come in byte order, and only the last segment is in progress": "dl_rules_stream.Listings.with_segment dl_rules_stream.Locks.least_with",
-    "an order's tagged answers of one kind are of one ledger": "dl_rules_ledger.Readers.hears dl_rules_ledger.Recoveries.recovers",
-    "numbers at their very end": """dl_rules_ledger.Recoveries.reads dl_rules_nodes.Limits.room_for_body dl_rules_stream.Opens.allocates
-        dl_types.Places.after_place""",
-    "a ledger has one piece until bookies are replaced": "dl_quorum.Pieces.last_from dl_quorum.Pieces.piece_from",
-    "a queue that isn't empty has an item, and a look is answered before room is tested": """dl_rules_nodes.Bookies.with_batch
-        dl_rules_nodes.Bookies.with_room dl_rules_nodes.Counts.is_new_entry dl_rules_nodes.Items.count_in dl_rules_nodes.Items.entry_in
-        dl_rules_nodes.Items.ledger_of dl_rules_stream.LogWriters.last_behind""",
-    "no request of an order does this to the tree: a root, a lasting parent's children, a spent counter or version": """dl_tree.Paths.extended
-        dl_tree.Paths.parent_of dl_tree.Trees.check dl_tree.Trees.created dl_tree.Trees.delete dl_tree.Trees.is_counted dl_tree.Trees.is_owned
-        dl_tree.Trees.owner_of dl_tree.Trees.parent_in dl_tree.Trees.set dl_tree_msg.Answers.why_kind dl_tree_msg.Answers.why_rest
-        dl_tree_msg.Kinds.mode_code dl_tree_msg.Kinds.why_code""",
-    "limits and refusals of commands on folders": "dl_types.Statuses.limit_text dl_text.Refusals.refusal_rest dl_text.Refusals.refusal_text dl_text.Refusals.refusal_word",
-    "rare in transcripts of random schedules, also spoilt ones; the laws of the crate have a row for each rule": """dl_transcript.Legal.are_first
-        dl_transcript.Legal.effect_on_read dl_transcript.Legal.taken_at dl_transcript.Lines.row_fields""",
-    "a line of a schedule has a payload, and a letter nothing behind it": "dl_text.ListFields.list_field dl_text.Readers.ended",
-}
+def read_unreached(path):
+    """Which equations no run is expected to use, each with why: a reason in brackets, then lines of a definition and its equations."""
+    out, reason = {}, None
+    with open(path, encoding="utf-8") as f:
+        for line in f:
+            if line.startswith("["):
+                reason = line.strip().strip("[]")
+            elif line.strip() and not line.startswith("#"):
+                name, _, numbers = line.strip().partition(": ")
+                out.update(((name, n), reason) for n in numbers.split())
+    return out
 
 
-def list_unused(path):
-    used, known = read_used(path)
-    reasons = {name: why for why, names in EXPECTED.items() for name in names.split()}
-    files = collections.defaultdict(list)
-    print("%d equations and branches were compiled, %d used" % (len(known), len(known & used)))
-    for name, what in sorted(known - used, key=str):
-        short = name.replace("Rattle.", "").replace(".specs.", ".")
-        files[reasons.get(short) or reasons.get(short.rsplit(".", 1)[0]) or "NOT EXPECTED"].append("%s, equation %s" % (short, what))
-    for why, names in sorted(files.items()):
-        print("%s:\n    %s" % (why, "\n    ".join(names)))
-    sys.exit("NOT EXPECTED" in files)
+def equation(name, what):
+    """A definition without what all have in common, and the number of its equation, with that of a branch where it has branches."""
+    return name.replace("Rattle.", "").replace(".specs.", "."), what.replace(", branch ", "/").replace(" of an if", "")
+
+
+def list_unused(options):
+    """Lists the equations that no run has used; each has to be expected, and none that is expected may have been used."""
+    used, known = set(), set()
+    for path in options.unused:
+        more = read_used(path)
+        used, known = used | more[0], known | more[1]
+    used, known = {equation(*x) for x in used}, {equation(*x) for x in known}
+    reasons, lists = read_unreached(options.unreached), collections.defaultdict(lambda: collections.defaultdict(list))
+    for name, number in sorted(known - used):
+        lists[reasons.get((name, number), "NOT EXPECTED")][name].append(number)
+    for name, number in sorted(x for x in reasons if x in used or x not in known):
+        lists["EXPECTED, BUT USED OR NOT THERE"][name].append(number)
+    for why, names in sorted(lists.items()):
+        print("[%s]\n%s" % (why, "\n".join("%s: %s" % (name, " ".join(numbers)) for name, numbers in names.items())))
+    print("%d equations and branches were compiled, %d used, %d not" % (len(known), len(known & used), len(known - used)))
+    sys.exit(any(why in lists for why in ("NOT EXPECTED", "EXPECTED, BUT USED OR NOT THERE")))
 
 
 def edits(path):
-    """The wrong edits of a file: a name in brackets, then the file, the old text and the new one."""
+    """The wrong edits of a file: a name in brackets, the parts that find it where they aren't rows and fuzz, the file, the old text
+    and the new one."""
     out = []
     for line in open(path, encoding="utf-8"):
         line = line.rstrip("\n")
         if line.startswith("["):
-            out.append([line.strip("[]"), []])
+            out.append([line.strip("[]"), ["rows", "fuzz"], []])
+        if line.startswith("part: "):
+            out[-1][1] = line.split()[1:]
         for word in ("file: ", "old: ", "new: "):
             if line.startswith(word):
-                out[-1][1].append(line[len(word) :])
+                out[-1][2].append(line[len(word) :])
     return out
 
 
@@ -841,14 +975,18 @@ def edited(options, name, texts):
 
 
 def wrong(options):
-    missed = 0
-    for name, texts in edits(options.wrong):
+    """Makes each wrong edit, and says what found it."""
+    missed, found = 0, 0
+    for name, parts, texts in edits(options.wrong):
+        if options.only not in name:
+            continue
         folder, crates = edited(options, name, texts)
-        fault = compare(argparse.Namespace(**dict(vars(options), crates=crates)))[1]
+        fault = compare(argparse.Namespace(**dict(vars(options), crates=crates, part=parts)))[1]
         shutil.rmtree(folder)
         is_found = fault is not None and not fault.startswith("UNREAD")
-        missed += not is_found
+        missed, found = missed + (not is_found), found + is_found
         print("%s: %s" % (name, fault.splitlines()[0] + ", " + fault.splitlines()[-1].strip() if is_found else fault or "NOT FOUND"), flush=True)
+    print("%d wrong edits found, %d not" % (found, missed))
     sys.exit(missed > 0)
 
 
@@ -859,13 +997,17 @@ def main():
     p.add_argument("--part", nargs="+", choices=list(PARTS), default=list(PARTS))
     p.add_argument("--seeds", nargs=2, type=int, default=(0, 100))
     p.add_argument("--jobs", type=int, default=1)
-    p.add_argument("--used"), p.add_argument("--unused"), p.add_argument("--wrong")
+    p.add_argument("--used"), p.add_argument("--unused", nargs="+"), p.add_argument("--wrong"), p.add_argument("--only", default="")
+    p.add_argument("--unreached", default=os.path.join(os.path.dirname(os.path.abspath(__file__)), "unreached_rules.txt"))
+    p.add_argument("--checker"), p.add_argument("--longest", type=int, default=70), p.add_argument("--count", type=int, default=300)
     options = p.parse_args()
     options.crates = os.path.abspath(options.crates)
     if options.unused:
-        list_unused(options.unused)
+        list_unused(options)
     if options.wrong:
         wrong(options)
+    if options.checker:
+        sys.exit(in_depth(lambda: write_rows(sides(options), options)))
     start = time.time()
     told, fault = compare(options)
     for k, n in sorted(told.items()):
