@@ -1,0 +1,15 @@
+pub mod ItemLemmas
+pub mod PieceLemmas
+pub mod QueueLemmas
+pub mod FillLemmas
+pub mod FrameLemmas
+pub mod SettleLemmas
+pub mod ReleaseLemmas
+pub mod RoomLemmas
+pub mod RowLemmas
+pub mod WaitLemmas
+pub mod StoreLemmas
+pub mod FollowLemmas
+pub mod TakeLemmas
+pub mod ViewLemmas
+pub mod CommitLemmas
