@@ -113,7 +113,7 @@ each_moment old new b k j result s file some c shown told t image from to left =
     go (inr now) = inr (subst (IsJournal image) (sym (batches_after b k s some)) now)
 
 -- what is told now was told before
-told_before : (old new : Option (List ℕ)) (shown : List ℕ) → is_some new ≡ is_some old → new ≡ Some shown → (was : List ℕ) × (old ≡ Some was)
+pub told_before : (old new : Option (List ℕ)) (shown : List ℕ) → is_some new ≡ is_some old → new ≡ Some shown → (was : List ℕ) × (old ≡ Some was)
 told_before None new shown same now = absurd (true≢false (sym (ap is_some now) ∙ same))
 told_before (Some was) new shown same now = (was, refl)
 

@@ -13,3 +13,7 @@ pub mod FollowLemmas
 pub mod TakeLemmas
 pub mod ViewLemmas
 pub mod CommitLemmas
+pub mod LookLemmas
+pub mod FindLemmas
+pub mod WaitingLemmas
+pub mod MakeLemmas

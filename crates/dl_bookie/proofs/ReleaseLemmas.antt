@@ -3,7 +3,7 @@ use Rattle.std.proofs.Common.{◌≡◌, ℕ, ◌+◌, true, false, ◌==◌, na
 use Rattle.std.specs.List.{list_any}
 use Rattle.std.proofs.lemmas.Bool.{eqb-true, eqb-false}
 use Rattle.std.proofs.lemmas.List.Sums.{sum_by-cons}
-use Rattle.dl_pool.specs.Pools.{Held, bytes_at, spare, pages_of, Adds}
+use Rattle.dl_pool.specs.Pools.{Held, nothing_held, bytes_at, spare, pages_of, Adds}
 use Rattle.dl_marks.proofs.BoolLemmas.{first_of, second_of, four_of, not_true}
 use Rattle.dl_marks.proofs.KnownLemmas.{or_left, or_right}
 use Rattle.dl_bookie.specs.declared.queued.Queued.{Queued}
@@ -53,7 +53,18 @@ pages_after pool less (Some p) ps frees held =
     let adds : Adds less p.span there.0 pool = frees there.0 there.1.0 in
     omega (arith, adds.room, ap pages_of there.1.1, sum_by-cons (λ (r : Piece). pages_of r.size) p ps)
 
--- queue and pool fit together when both are empty
+-- queue and pool fit together at first
+pub fits_new : (pool : Held) (queue : List Queued) → pool ≡ nothing_held 2048 → queue ≡ [] → Fits pool queue 0
+unfolding is_held
+fits_new pool queue fresh none = record {
+  held = ap (λ (qs : List Queued). is_held pool (pieces_of qs)) none;
+  pages = omega (arith, ap spare fresh, ap (λ (qs : List Queued). total_pages (pieces_of qs)) none);
+  size = sym (ap (λ (qs : List Queued). total_size (pieces_of qs)) none);
+  few = omega (arith, ap length none);
+  small = omega arith;
+}
+
+-- and when both were emptied
 pub fits_empty : (old new : Held) (was now : List Queued) (bytes : ℕ) → Fits old was bytes → spare new ≡ spare old + total_pages (pieces_of was) → now ≡ [] → Fits new now 0
 unfolding is_held
 fits_empty old new was now bytes fits pages none = record {

@@ -39,7 +39,7 @@ place_from_some gate (batch ∷ more) l e =
 pub place_some : (b : rules.Bookie) (l e : ℕ) → is_some (place_of b.batches l e) ≡ list_any (is_entry l e) (rules.durable b)
 place_some b l e = place_from_some 8 b.batches l e
 
-none_of : {A : Type 0} (o : Option A) → is_some o ≡ false → o ≡ None
+pub none_of : {A : Type 0} (o : Option A) → is_some o ≡ false → o ≡ None
 none_of None h = refl
 none_of (Some x) h = absurd (true≢false h)
 
@@ -48,7 +48,7 @@ place_none b l e h = none_of (place_of b.batches l e) (place_some b l e ∙ h)
 
 -- ---- what the marks say
 
-no_all : (p : Item → Bool) (before todo : List Item) → list_any p (before ++ todo) ≡ false → (list_any p before ≡ false) × (list_any p todo ≡ false)
+pub no_all : (p : Item → Bool) (before todo : List Item) → list_any p (before ++ todo) ≡ false → (list_any p before ≡ false) × (list_any p todo ≡ false)
 no_all p before todo h =
     let parts : (list_any p before || list_any p todo) ≡ false = sym (list_any-append p before todo) ∙ h in
     (or_left (list_any p before) (list_any p todo) parts, or_right (list_any p before) (list_any p todo) parts)

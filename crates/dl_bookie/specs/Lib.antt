@@ -9,3 +9,5 @@ pub mod Settling
 pub mod Releasing
 pub mod Committing
 pub mod Looking
+pub mod Making
+pub mod Waiting

@@ -1,6 +1,5 @@
 -- What a look at the durable list does.
-use Rattle.std.specs.Prelude.{◌≡◌, ◌≤◌, ◌+◌, ℕ, false, List, length, take, drop, Some, Result, Ok, Err, IfOk, IsErrOf, Vec}
-use Rattle.std.specs.declared.alloc.Global.{Global}
+use Rattle.std.specs.Prelude.{◌≡◌, ℕ, Bool, true, false, List, length, take, drop, Some, Result, Ok, Err, IfOk, IsErrOf}
 use Rattle.dl_depot.specs.View.{View}
 use Rattle.dl_depot.specs.Device.{Rose, Looks}
 use Rattle.dl_msg.specs.declared.msg.Msg.{Msg}
@@ -29,12 +28,12 @@ CountsLook before now (Err (Damaged at)) = now ≡ before
 CountsLook before now (Err NoMemory) = now ≡ before
 
 -- What reading an entry back from its place answers.
-pub record ReadsBack (old new : View) (file : ℕ) (p : Place) (result : Result (Vec ℕ Global) LookFault) : Type 0 where
+pub record ReadsBack (old new : View) (file : ℕ) (p : Place) (result : Result (List ℕ) LookFault) : Type 0 where
   pub looks : Looks old new file
-  pub found : (shown : List ℕ) → old.shown file ≡ Some shown → IfOk result (λ v. v.items ≡ bytes_in shown p)
-  pub whole : IfOk result (λ v. IsEntryBytes v.items)
+  pub found : (shown : List ℕ) → old.shown file ≡ Some shown → IfOk result (λ bytes. bytes ≡ bytes_in shown p)
+  pub whole : IfOk result IsEntryBytes
   -- not where an entry is shown there
-  pub damaged : (at : ℕ) → IsErrOf result (Damaged at) → (shown : List ℕ) → old.shown file ≡ Some shown → p.at + p.size ≤ length shown → IsEntryBytes (bytes_in shown p) → ⊥
+  pub damaged : (at : ℕ) → IsErrOf result (Damaged at) → (shown : List ℕ) → old.shown file ≡ Some shown → length (bytes_in shown p) ≡ p.size → IsEntryBytes (bytes_in shown p) → ⊥
   pub place : (at : ℕ) → IsErrOf result (Damaged at) → at ≡ p.at
   pub counts : CountsLook (old.faults file) (new.faults file) result
   pub works : IsErrOf result Failed → ⊥
@@ -51,6 +50,16 @@ IsLook m = ⊥
 abbrev pub IsLike : Msg → Msg → Type 0
 IsLike (EntryIs t l e bytes) (EntryIs u m f other) = (u ≡ t) × ((m ≡ l) × (f ≡ e))
 IsLike wanted m = m ≡ wanted
+
+-- whether a fault is one of the device
+abbrev pub is_device : LookFault → Bool
+is_device Device = true
+is_device fault = false
+
+-- what is kept after a look: a call on the device that failed is the last one
+abbrev pub kept_after : {X : Type 0} → BookieFacts → Result X LookFault → BookieFacts
+kept_after k (Err Device) = record k { failed = true }
+kept_after k result = k
 
 -- What a look does of what stands for a node. Where the depot doesn't tell the bytes of the file, those of an entry are what the
 -- device gave.

@@ -3,6 +3,8 @@ use Rattle.std.specs.Prelude.{ℕ, Bool, true, false, if◌then◌else◌, Optio
 use Rattle.dl_msg.specs.declared.msg.Msg.TheVariants.{AddOk, AddFenced, CopyOk, LacIs}
 use Rattle.dl_marks.specs.declared.marks.EntryMarks.{EntryMarks}
 use Rattle.dl_marks.specs.declared.marks.LedgerMarks.{LedgerMarks}
+use Rattle.dl_marks.specs.declared.marks.Place.{Place}
+use Rattle.dl_msg.specs.declared.msg.Msg.{Msg}
 use Rattle.dl_bookie.specs.declared.row.Row.{Row}
 use Rattle.dl_bookie.specs.declared.row.Row.TheVariants.{Answers, Queues, Stores}
 
@@ -10,6 +12,11 @@ use Rattle.dl_bookie.specs.declared.row.Row.TheVariants.{Answers, Queues, Stores
 abbrev pub is_added : Option EntryMarks → Bool
 is_added None = false
 is_added (Some m) = m.added
+
+-- where the entry of its first durable item stands
+abbrev pub place_by : Option EntryMarks → Option Place
+place_by None = None
+place_by (Some m) = m.place
 
 -- whether an item of the entry is durable
 abbrev pub is_there : Option EntryMarks → Bool
@@ -40,6 +47,10 @@ is_fencing (Some m) = m.fencing
 abbrev pub greatest_of : Option LedgerMarks → ℕ
 greatest_of None = 0
 greatest_of (Some m) = m.greatest
+
+-- the greatest count that is known of a ledger, and whether it is fenced
+abbrev pub marked_lac : Option LedgerMarks → ℕ → ℕ → Msg
+marked_lac known t l = LacIs t l (is_fenced known) (greatest_of known)
 
 -- what an Add does
 abbrev pub marked_add_row : Option EntryMarks → Option LedgerMarks → ℕ → ℕ → Row

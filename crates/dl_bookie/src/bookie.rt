@@ -1,31 +1,36 @@
-ghost use Rattle.std.specs.Prelude.{◌≡◌, ◌≤◌, ◌<◌, ◌+◌, ◌++◌, ◌∷◌, ◌↔◌, [], ℕ, nat_lt, false, true, length, map, Option, Some, None, IfOk, OnOk, OnErr, IsErrOf};
+ghost use Rattle.std.specs.Prelude.{◌≡◌, ◌≤◌, ◌<◌, ◌+◌, ◌++◌, ◌∷◌, ◌↔◌, [], ℕ, nat_lt, false, true, length, Some, None, IfOk, OnErr, IsErrOf, vec_capacity};
 ghost use Rattle.std.specs.List.{list_any};
+ghost use Rattle.std.specs.VecDeque.{deque_capacity};
 ghost use Rattle.dl_depot.specs.View.{Keeps};
-ghost use Rattle.dl_depot.specs.Device.{CountsFault};
+ghost use Rattle.dl_depot.specs.Device.{Looks};
+ghost use Rattle.dl_journal.specs.Limits.{journal_limit};
 ghost use Rattle.dl_journal.specs.Settled.{Stands};
-ghost use Rattle.dl_journal.specs.Calls.{MakesCalls, store_calls};
-ghost use Rattle.dl_journal.specs.Commits.{spare_of, IsEmpty, CountsCommit, start};
-ghost use Rattle.dl_journal.specs.declared.commit_fault.CommitFault.TheVariants.{Failed};
-ghost use Rattle.dl_pool.specs.Pools.{spare, pages_of};
-ghost use Rattle.dl_msg.specs.declared.msg.Msg.TheVariants.{Full};
+ghost use Rattle.dl_journal.specs.Commits.{spare_of, IsEmpty, CountsCommit};
+ghost use Rattle.dl_pool.specs.Pools.{nothing_held};
 ghost use Rattle.dl_msg.specs.Whole.{IsWhole};
+ghost use Rattle.dl_rules_nodes.specs.Limits.{pool_pages};
 ghost use Rattle.dl_rules_nodes.specs.Items.{item_length, is_entry};
-ghost use Rattle.dl_rules_nodes.specs.Bookies.{Bookie as Node, after, taken, durable, fenced, named, empty_bookie};
+ghost use Rattle.dl_rules_nodes.specs.Bookies.{Bookie as Node, after, taken, durable, fenced, named};
 ghost use Rattle.dl_items.specs.Heads.{item_of, ledger_in, entry_named};
-ghost use Rattle.dl_bookie.specs.Facts.{BookieFacts};
 ghost use Rattle.dl_bookie.specs.Pieces.{Fits};
 ghost use Rattle.dl_bookie.specs.Standing.{StandsFor, HasEntry};
 ghost use Rattle.dl_bookie.specs.Taking.{lack_of, outcome_of};
 ghost use Rattle.dl_bookie.specs.Storing.{names_new, HasRoom, Stored};
 ghost use Rattle.dl_bookie.specs.Following.{Follows};
 ghost use Rattle.dl_bookie.specs.Committing.{IsSpoilt, Commits};
+ghost use Rattle.dl_bookie.specs.Looking.{IsLook, LooksUp, CountsLook, kept_after};
+ghost use Rattle.dl_bookie.specs.Making.{IsNodeFile, Makes};
+ghost use Rattle.dl_bookie.specs.Waiting.{item_at, JoinTo};
 
 use crate::batch::write_batch;
 use crate::filling::store_item;
+use crate::load_fault::LoadFault;
+use crate::look_fault::LookFault;
 use crate::queued::{Piece, Queued};
+use crate::reading::read_back;
 use crate::releasing::release;
 use crate::replies::Replies;
-use crate::row::{Row, add_row, copy_row, fence_row, is_fenced, is_there};
+use crate::row::{Row, add_row, copy_row, fence_row, is_fenced, is_there, lac_of, place_by};
 use crate::settling::settle;
 use crate::taken::Taken;
 use dl_depot::depot::Depot;
@@ -41,14 +46,40 @@ use dl_marks::noting::note;
 use dl_msg::msg::Msg;
 use dl_msg::resource::Resource;
 use dl_pool::pages_of;
+use dl_pool::parts::Parts;
 use dl_pool::pool::Pool;
 use dl_record::limits::ENTRY_MAX;
-use dl_rules_nodes::limits::{LONGEST_BATCH, MOST_ENTRIES, MOST_LEDGERS, MOST_WAITING};
+use dl_rules_nodes::limits::{LONGEST_BATCH, MOST_ENTRIES, MOST_LEDGERS, MOST_WAITING, POOL_PAGES};
+use dl_types::memory::NoMemory;
+use std::alloc::Global;
 use std::collections::VecDeque;
 use std::marker::Model;
 
 /// The bytes of the frame of the longest batch.
 pub const FRAME: usize = LONGEST_BATCH + AROUND;
+
+/// What a storage node takes of memory beside its tables: the pages of the pool, the places of the queue, and the frame.
+#[derive(Drop)]
+struct Room {
+    pool: Pool,
+    queue: VecDeque<Queued>,
+    frame: Vec<u8>,
+}
+
+impl Room {
+    /// Takes it all. It is reserved, and nothing of it is written.
+    fn new(alloc: Global) -> Result<Room, NoMemory>
+        ensures pool { IfOk result (λ r. r.pool ≡ nothing_held pool_pages) }
+        ensures queue { IfOk result (λ r. r.queue.items ≡ []) }
+        ensures places { IfOk result (λ r. MOST_WAITING ≤ deque_capacity r.queue) }
+        ensures frame { IfOk result (λ r. FRAME ≤ vec_capacity r.frame) }
+    {
+        let pool = Pool::new(alloc, POOL_PAGES)?;
+        let queue = VecDeque::with_capacity(alloc, MOST_WAITING)?;
+        let frame = Vec::with_capacity(alloc, FRAME)?;
+        Ok(Room { pool, queue, frame })
+    }
+}
 
 /// A storage node. What is durable stands in its journal alone, and what waits for the next commit in the pages of its pool; of each
 /// entry and each ledger it keeps marks in tables. All its memory is taken when it is made or loaded.
@@ -95,6 +126,71 @@ impl Model for Bookie {
 }
 
 impl Bookie {
+    /// A storage node of a journal, whose tables these are, and which nothing waits for.
+    fn of(
+        journal: Journal,
+        file: FileId,
+        entries: EntryTable,
+        ledgers: LedgerTable,
+        room: Room,
+    ) -> Bookie
+        requires file { journal.file ≡ file }
+        requires works { journal.failed ≡ false }
+        requires below { journal.gate < journal_limit }
+        requires pool { room.pool ≡ nothing_held pool_pages }
+        requires queue { room.queue.items ≡ [] }
+        requires places { MOST_WAITING ≤ deque_capacity room.queue }
+        requires frame { FRAME ≤ vec_capacity room.frame }
+        ensures { result ≡ record {
+          journal = journal;
+          pool = nothing_held pool_pages;
+          entries = entries;
+          ledgers = ledgers;
+          queue = [];
+          bytes = 0;
+          failed = false;
+        } }
+    {
+        let Room { pool, queue, frame } = room;
+        Bookie {
+            journal,
+            file,
+            pool,
+            entries,
+            ledgers,
+            queue,
+            bytes: 0,
+            frame,
+            failed: false,
+        }
+    }
+
+    /// Makes a storage node without an item, and its journal in this file, which is to be empty. Files 1 to 16 are those of storage
+    /// nodes. All memory is taken first: `NoMemory` comes where it runs out, and then no call is made. `Device` comes only where the
+    /// file's count of faults rose, or stands at the greatest u64; the file may then be no journal. No other fault comes.
+    pub fn make<D: Depot>(alloc: Global, depot: &mut D, file: FileId) -> Result<Bookie, LoadFault>
+        requires empty { IsEmpty (D.view depot.old) file }
+        requires file { IsNodeFile file }
+        ensures { Makes (D.view depot.old) (D.view depot.new) file result }
+    {
+        let entries = match EntryTable::new(alloc) {
+            Ok(entries) => entries,
+            Err(_) => return Err(LoadFault::NoMemory),
+        };
+        let ledgers = match LedgerTable::new(alloc) {
+            Ok(ledgers) => ledgers,
+            Err(_) => return Err(LoadFault::NoMemory),
+        };
+        let room = match Room::new(alloc) {
+            Ok(room) => room,
+            Err(_) => return Err(LoadFault::NoMemory),
+        };
+        match Journal::make(depot, file) {
+            Ok(journal) => Ok(Bookie::of(journal, file, entries, ledgers, room)),
+            Err(_) => Err(LoadFault::Device),
+        }
+    }
+
     /// How many replies wait.
     pub fn queued(&self) -> u32
         ensures { result ≡ length self.now.queue }
@@ -115,6 +211,18 @@ impl Bookie {
             → result ≡ list_any (is_entry ledger entry) (durable b) }
     {
         is_there(self.entries.get(EntryKey { ledger, entry }))
+    }
+
+    /// The item of the reply at a place of the queue, as slices of the pool's own pages, which join to its bytes. Places count from 0,
+    /// in the order of queuing. It is none exactly where that reply has no item of its own. It takes no memory.
+    pub fn waiting(&self, place: u32) -> Option<Parts<'_>>
+        requires { place < length self.now.queue }
+        ensures { (b : Node) → StandsFor b self.now → JoinTo (item_at b.queue place) result }
+    {
+        match &self.queue[place as usize].piece {
+            Some(piece) => Some(self.pool.parts(&piece.span)),
+            None => None,
+        }
     }
 
     /// Whether the journal has no room for an item of so many bytes behind those that wait.
@@ -331,7 +439,7 @@ impl Bookie {
         ensures file { self.new.journal.file ≡ self.old.journal.file }
         ensures counts { CountsCommit ((D.view depot.old).faults self.old.journal.file)
             ((D.view depot.new).faults self.old.journal.file) result }
-        ensures failed { IsErrOf result Failed ↔ (self.old.failed ≡ true) }
+        ensures failed { IsErrOf result CommitFault.Failed ↔ (self.old.failed ≡ true) }
         ensures fault { OnErr result (IsSpoilt self.new replies.new) }
     {
         replies.clear();
@@ -361,11 +469,92 @@ impl Bookie {
             }
         }
     }
+
+    /// Answers an asked entry from the durable list.
+    fn look_entry<D: Depot>(
+        &mut self,
+        alloc: Global,
+        depot: &mut D,
+        tag: u32,
+        ledger: u64,
+        entry: u64,
+    ) -> Result<Msg, LookFault>
+        requires { self.old.failed ≡ false }
+        ensures looked { (b : Node) → StandsFor b self.old → LooksUp (D.view depot.old)
+            (D.view depot.new) b self.old (Msg.AskEntry tag ledger entry) result }
+        ensures looks { Looks (D.view depot.old) (D.view depot.new) self.old.journal.file }
+        ensures counts { CountsLook ((D.view depot.old).faults self.old.journal.file)
+            ((D.view depot.new).faults self.old.journal.file) result }
+        ensures works { IsErrOf result LookFault.Failed → ⊥ }
+        ensures state { self.new ≡ kept_after self.old result }
+    {
+        let place = match place_by(self.entries.get(EntryKey { ledger, entry })) {
+            Some(place) => place,
+            None => {
+                let fenced = is_fenced(self.ledgers.get(ledger));
+                return Ok(Msg::NoEntry {
+                    tag,
+                    ledger,
+                    entry,
+                    fenced,
+                });
+            }
+        };
+        match read_back(alloc, depot, self.file, place) {
+            Ok(bytes) => Ok(Msg::EntryIs {
+                tag,
+                ledger,
+                entry,
+                bytes,
+            }),
+            Err(fault) => {
+                self.failed = fault.is_device();
+                Err(fault)
+            }
+        }
+    }
+
+    /// Answers an AskEntry, or an AskLac without a fence, from the durable list; the bytes of an entry are read back from the journal.
+    ///
+    /// `Failed` comes exactly where an earlier call on the device failed, and then no call is made. `Device` comes only where the
+    /// file's count of faults rose, or stands at the greatest u64; the value then has failed. `Damaged` has the offset of an entry
+    /// whose bytes, as they were read back, are too few or no entry; it never comes from a depot that tells its bytes. `NoMemory`
+    /// comes where memory runs out. An EntryIs that it gives is whole.
+    pub fn look<D: Depot>(
+        &mut self,
+        alloc: Global,
+        depot: &mut D,
+        msg: &Msg,
+    ) -> Result<Msg, LookFault>
+        requires { IsLook msg.now }
+        ensures looked { (b : Node) → StandsFor b self.old → LooksUp (D.view depot.old)
+            (D.view depot.new) b self.old msg.now result }
+        ensures looks { Looks (D.view depot.old) (D.view depot.new) self.old.journal.file }
+        ensures counts { CountsLook ((D.view depot.old).faults self.old.journal.file)
+            ((D.view depot.new).faults self.old.journal.file) result }
+        ensures failed { IsErrOf result LookFault.Failed ↔ (self.old.failed ≡ true) }
+        ensures state { self.new ≡ kept_after self.old result }
+    {
+        if self.failed {
+            return Err(LookFault::Failed);
+        }
+        match msg {
+            Msg::AskLac { tag, ledger, .. } => {
+                let (tag, ledger) = (*tag, *ledger);
+                Ok(lac_of(self.ledgers.get(ledger), tag, ledger))
+            }
+            Msg::AskEntry { tag, ledger, entry } => {
+                let (tag, ledger, entry) = (*tag, *ledger, *entry);
+                self.look_entry(alloc, depot, tag, ledger, entry)
+            }
+            _ => unreachable!(),
+        }
+    }
 }
 
 /// The answer that there is no room.
 fn full_of(what: Resource, head: Head) -> Msg
-    ensures { result ≡ Full what (ledger_in head) (named (entry_named head)) }
+    ensures { result ≡ Msg.Full what (ledger_in head) (named (entry_named head)) }
 {
     Msg::Full {
         what,

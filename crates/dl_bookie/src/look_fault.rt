@@ -22,6 +22,20 @@ pub enum LookFault {
     NoMemory,
 }
 
+impl LookFault {
+    ghost use Rattle.dl_bookie.specs.Looking.{is_device};
+
+    /// Whether a call on the device failed.
+    pub fn is_device(self) -> bool
+        ensures { result ≡ is_device self }
+    {
+        match self {
+            LookFault::Device => true,
+            _ => false,
+        }
+    }
+}
+
 impl From<AllocError> for LookFault {
     ghost from_gives = { λ _ e. e ≡ NoMemory };
 

@@ -2,6 +2,7 @@ ghost use Rattle.std.specs.Prelude.{◌≡◌, length, IfOk};
 ghost use Rattle.dl_bookie.specs.Looking.{ReadsBack};
 
 use crate::look_fault::LookFault;
+use bytes::Bytes;
 use dl_depot::depot::Depot;
 use dl_depot::file_id::FileId;
 use dl_marks::marks::Place;
@@ -21,7 +22,7 @@ pub fn read_back<D: Depot>(
     depot: &mut D,
     file: FileId,
     place: Place,
-) -> Result<Vec<u8>, LookFault>
+) -> Result<Bytes, LookFault>
     ensures { ReadsBack (D.view depot.old) (D.view depot.new) file place result }
 {
     let mut bytes = match zeros(alloc, place.size as usize) {
@@ -33,9 +34,12 @@ pub fn read_back<D: Depot>(
             if count < bytes.len() {
                 return Err(LookFault::Damaged(place.at));
             }
-            match check_entry(&bytes) {
-                Ok(()) => Ok(bytes),
-                Err(_) => Err(LookFault::Damaged(place.at)),
+            if let Err(_) = check_entry(&bytes) {
+                return Err(LookFault::Damaged(place.at));
+            }
+            match Bytes::from_vec(bytes) {
+                Ok(bytes) => Ok(bytes),
+                Err(_) => Err(LookFault::NoMemory),
             }
         }
         Err(_) => Err(LookFault::Device),

@@ -1,7 +1,7 @@
 ghost use Rattle.std.specs.Prelude.{◌≡◌};
-ghost use Rattle.dl_bookie.specs.Rows.{is_there, is_fenced, is_fencing, greatest_of, marked_add_row, marked_copy_row, marked_fence_row};
+ghost use Rattle.dl_bookie.specs.Rows.{place_by, is_there, marked_lac, is_fenced, is_fencing, greatest_of, marked_add_row, marked_copy_row, marked_fence_row};
 
-use dl_marks::marks::{EntryMarks, LedgerMarks};
+use dl_marks::marks::{EntryMarks, LedgerMarks, Place};
 use dl_msg::msg::Msg;
 
 /// What a message does, by the marks of its entry and its ledger.
@@ -13,6 +13,16 @@ pub enum Row {
     Queues(Msg),
     /// The reply waits with an item of its own.
     Stores(Msg),
+}
+
+/// Where the entry of its first durable item stands.
+pub fn place_by(marks: Option<EntryMarks>) -> Option<Place>
+    ensures { result ≡ place_by marks }
+{
+    match marks {
+        Some(marks) => marks.place,
+        None => None,
+    }
 }
 
 /// Whether an item of the entry is durable.
@@ -52,6 +62,18 @@ pub fn greatest_of(marks: Option<LedgerMarks>) -> u64
     match marks {
         Some(marks) => marks.greatest,
         None => 0,
+    }
+}
+
+/// The greatest confirmed count that is known of a ledger, and whether it is fenced.
+pub fn lac_of(known: Option<LedgerMarks>, tag: u32, ledger: u64) -> Msg
+    ensures { result ≡ marked_lac known tag ledger }
+{
+    Msg::LacIs {
+        tag,
+        ledger,
+        fenced: is_fenced(known),
+        count: greatest_of(known),
     }
 }
 
