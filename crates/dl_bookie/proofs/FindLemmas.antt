@@ -2,6 +2,7 @@
 use Rattle.std.proofs.Common.{◌≡◌, ℕ, Bool, true, false, ◌||◌, List, [], ◌∷◌, ◌++◌, length, Option, Some, None, is_some, find, Result, Ok, Err, if◌then◌else◌, true≢false, sym, refl, ap, subst, ◌∙◌}
 use Rattle.std.specs.List.{list_any, AllByRecursion}
 use Rattle.dl_depot.specs.View.{View}
+use Rattle.dl_depot.specs.Device.{Looks}
 use Rattle.dl_journal.specs.Settled.{Settled}
 use Rattle.dl_msg.specs.declared.msg.Msg.{Msg}
 use Rattle.dl_msg.specs.declared.msg.Msg.TheVariants.{AskEntry, AskLac, EntryIs, NoEntry, LacIs}
@@ -15,8 +16,9 @@ use Rattle.dl_bookie.specs.declared.look_fault.LookFault.{LookFault}
 use Rattle.dl_bookie.specs.declared.look_fault.LookFault.TheVariants.{Device, Failed, Damaged, NoMemory}
 use Rattle.dl_bookie.specs.Facts.{BookieFacts}
 use Rattle.dl_bookie.specs.Rows.{place_by, is_fenced, greatest_of}
-use Rattle.dl_bookie.specs.Standing.{StandsFor, TablesStand, HasEntry, batches_of}
+use Rattle.dl_bookie.specs.Standing.{OnFile, StandsFor, TablesStand, HasEntry, batches_of}
 use Rattle.dl_bookie.specs.Looking.{bytes_in, ReadsBack, LooksUp, is_device, kept_after}
+use Rattle.dl_bookie.proofs.ViewLemmas.{settled_looks}
 use Rattle.dl_bookie.proofs.LookLemmas.{Shows, file_shows}
 use Rattle.dl_bookie.proofs.RowLemmas.{place_some, place_none, no_all, none_of, fenced_is, greatest_is}
 
@@ -81,6 +83,10 @@ something_there b l e p some = there (find (is_entry l e) (durable b)) (find_som
 
 -- ---- the answers
 
+-- the file after a call that reads it
+file_looks : (old new : View) (b : Bookie) (k : BookieFacts) → Looks old new k.journal.file → OnFile old b k → OnFile new b k
+file_looks old new b k looks file shown told = settled_looks old new k.journal shown (batches_of b) looks (file shown (sym looks.same_shown ∙ told))
+
 -- an answer from the tables
 pub answers_now : (v : View) (b : Bookie) (k : BookieFacts) (t l e : ℕ) → StandsFor b k → place_by (marks_at k.entries l e) ≡ None
     → LooksUp v v b k (AskEntry t l e) (Ok (NoEntry t l e (is_fenced (ledger_at k.ledgers l))))
@@ -93,6 +99,7 @@ answers_now v b k t l e s none =
       whole = tt;
       told = λ shown told file. same;
       undamaged = λ shown told file at is. cc;
+      on_file = λ file. file;
     }
 
 pub answers_lac : (v : View) (b : Bookie) (k : BookieFacts) (t l : ℕ) (f : Bool) → StandsFor b k
@@ -101,7 +108,7 @@ unfolding looked
 answers_lac v b k t l f s =
     let same : LacIs t l (is_fenced (ledger_at k.ledgers l)) (greatest_of (ledger_at k.ledgers l)) ≡ LacIs t l (fenced b l) (greatest l (durable b)) =
     λ i. LacIs t l (fenced_is b k s.tables l i) (greatest_is b k s.tables l i) in
-    record { answer = same; whole = tt; told = λ shown told file. same; undamaged = λ shown told file at is. cc }
+    record { answer = same; whole = tt; told = λ shown told file. same; undamaged = λ shown told file at is. cc; on_file = λ file. file }
 
 -- what the file shows at the place is the item's entry
 entry_shown : (v : View) (b : Bookie) (k : BookieFacts) (l e : ℕ) (p : Place) (x : Item) (shown : List ℕ) → Settled v k.journal shown (batches_of b)
@@ -123,6 +130,7 @@ answers_entry old new b k t l e p bytes s is read =
       whole = read.whole;
       told = λ shown told file. ap (EntryIs t l e) (read.found shown told ∙ (entry_shown old b k l e p item.0 shown (file shown told) place item.1).0) ∙ sym wanted;
       undamaged = λ shown told file at damaged. cc;
+      on_file = file_looks old new b k read.looks;
     }
 
 -- a fault is the same in each result
@@ -139,6 +147,7 @@ answers_none old new b k t l e p fault s is read =
       answer = tt;
       whole = tt;
       told = λ shown told file. tt;
+      on_file = file_looks old new b k read.looks;
       undamaged = λ shown told file at damaged.
           let shows = entry_shown old b k l e p item.0 shown (file shown told) place item.1 in
           read.damaged at (ap (λ (f : LookFault). Err f) (fault_same fault (Damaged at) damaged)) shown told (ap length shows.0 ∙ sym shows.1)

@@ -67,4 +67,5 @@ pub record LooksUp (old new : View) (b : Bookie) (k : BookieFacts) (m : Msg) (re
   pub answer : IfOk result (λ reply. IsLike (looked b m) reply)
   pub whole : IfOk result IsWhole
   pub told : (shown : List ℕ) → old.shown k.journal.file ≡ Some shown → OnFile old b k → IfOk result (λ reply. reply ≡ looked b m)
+  pub on_file : OnFile old b k → OnFile new b k
   pub undamaged : (shown : List ℕ) → old.shown k.journal.file ≡ Some shown → OnFile old b k → (at : ℕ) → IsErrOf result (Damaged at) → ⊥

@@ -487,6 +487,8 @@ impl Bookie {
             ((D.view depot.new).faults self.old.journal.file) result }
         ensures works { IsErrOf result LookFault.Failed → ⊥ }
         ensures state { self.new ≡ kept_after self.old result }
+        ensures stands { Stands (D.view depot.old) self.old.journal
+            → Stands (D.view depot.new) self.new.journal }
     {
         let place = match place_by(self.entries.get(EntryKey { ledger, entry })) {
             Some(place) => place,
@@ -534,6 +536,8 @@ impl Bookie {
             ((D.view depot.new).faults self.old.journal.file) result }
         ensures failed { IsErrOf result LookFault.Failed ↔ (self.old.failed ≡ true) }
         ensures state { self.new ≡ kept_after self.old result }
+        ensures stands { Stands (D.view depot.old) self.old.journal
+            → Stands (D.view depot.new) self.new.journal }
     {
         if self.failed {
             return Err(LookFault::Failed);
