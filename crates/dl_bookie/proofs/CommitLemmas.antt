@@ -1,5 +1,7 @@
 -- A commit: the batch in the file, the node that goes on, the replies that leave.
-use Rattle.std.proofs.Common.{◌≡◌, ◌⊎◌, inl, inr, ℕ, zero, suc, nat_le, ◌+◌, ◌-◌, ◌<◌, ◌≤◌, Bool, true, false, cond, List, [], ◌∷◌, ◌++◌, length, map, option_to_list, Option, Some, None, is_some, Result, Ok, Err, OnOk, true≢false, sym, refl, ap, subst, ◌∙◌, arith, append-nil, length-append}
+use Rattle.std.proofs.Common.{◌≡◌, ◌⊎◌, inl, inr, ℕ, zero, suc, nat_le, ◌+◌, ◌-◌, ◌<◌, ◌≤◌, Bool, true, false, cond, List, [], ◌∷◌, ◌++◌, length, map}
+use Rattle.std.proofs.Common.{option_to_list, Option, Some, None, is_some, Result, Ok, Err, OnOk, true≢false, sym, refl, ap, subst, ◌∙◌, arith, append-nil}
+use Rattle.std.proofs.Common.{length-append}
 use Rattle.std.specs.List.{AllZip, AllByRecursion}
 use Rattle.std.specs.Option.{unwrap_or}
 use Rattle.std.proofs.lemmas.List.Sums.{sum_by-append, sum_by-cons}
@@ -69,7 +71,8 @@ pub numbered_push : (first : ℕ) (batches : List (List Item)) (items : List Ite
 numbered_push first [] items = ap (λ n. (record { number = n; body = body_of items }) ∷ []) (omega arith)
 numbered_push first (x ∷ batches) items =
     ap (λ (bs : List Batch). (record { number = first; body = body_of x }) ∷ bs) (numbered_push (first + 1) batches items)
-    ∙ ap (λ n. (record { number = first; body = body_of x }) ∷ (numbered (first + 1) batches ++ (record { number = n; body = body_of items }) ∷ [])) (omega arith)
+    ∙ ap (λ n. (record { number = first; body = body_of x }) ∷ (numbered (first + 1) batches ++ (record { number = n; body = body_of items }) ∷ []))
+    (omega arith)
 
 -- where an item waits, there is one batch more
 pub with_some : (batches : List (List Item)) (items : List Item) → 0 < items_length items → with_batch batches items ≡ batches ++ items ∷ []
@@ -130,7 +133,8 @@ file_after old new b k n v s file some c shown told =
 
 -- where it answered
 on_file_after : (old new : View) (b : Bookie) (k n : BookieFacts) (result : Result (Unit {0}) CommitFault)
-    → StandsFor b k → 0 < items_length (queued b) → Committed old new k.journal n.journal (body_of (queued b)) result → OnFile old b k → OnOk result (OnFile new (committed b) n)
+    → StandsFor b k → 0 < items_length (queued b) → Committed old new k.journal n.journal (body_of (queued b)) result → OnFile old b k
+    → OnOk result (OnFile new (committed b) n)
 on_file_after old new b k n (Ok v) s some c file = file_after old new b k n v s file some c
 on_file_after old new b k n (Err e) s some c file = tt
 
@@ -194,14 +198,17 @@ gate_push : (batches : List (List Item)) (items : List Item) → gate_of (batche
 gate_push batches items = omega (arith, sum_by-append (λ (x : List Item). 13 + items_length x) batches (items ∷ []))
 
 -- gate and number after a batch
-pub gate_after : (b : Bookie) (k : BookieFacts) (j : JournalState) → StandsFor b k → 0 < items_length (queued b) → j ≡ state_after k.journal (body_of (queued b))
+pub gate_after : (b : Bookie) (k : BookieFacts) (j : JournalState) → StandsFor b k → 0 < items_length (queued b)
+    → j ≡ state_after k.journal (body_of (queued b))
     → j.gate ≡ gate_of (with_batch b.batches (queued b))
 gate_after b k j s some is =
     ap (λ (x : JournalState). x.gate) is
     ∙ omega (arith, s.gate, lengths_are_of_bytes.items (queued b), gate_push b.batches (queued b))
     ∙ sym (ap gate_of (with_some b.batches (queued b) some))
 
-pub next_after : (b : Bookie) (k : BookieFacts) (j : JournalState) → StandsFor b k → 0 < items_length (queued b) → j ≡ state_after k.journal (body_of (queued b))
+-- the number of the next batch after one
+pub next_after : (b : Bookie) (k : BookieFacts) (j : JournalState) → StandsFor b k → 0 < items_length (queued b)
+    → j ≡ state_after k.journal (body_of (queued b))
     → j.next ≡ b.first + length (with_batch b.batches (queued b))
 next_after b k j s some is =
     ap (λ (x : JournalState). x.next) is
@@ -209,17 +216,21 @@ next_after b k j s some is =
     ∙ sym (ap (λ (bs : List (List Item)). b.first + length bs) (with_some b.batches (queued b) some))
 
 -- the same where no item waits
-pub gate_same : (b : Bookie) (k : BookieFacts) (j : JournalState) → StandsFor b k → queued b ≡ [] → j ≡ k.journal → j.gate ≡ gate_of (with_batch b.batches (queued b))
+pub gate_same : (b : Bookie) (k : BookieFacts) (j : JournalState) → StandsFor b k → queued b ≡ [] → j ≡ k.journal
+    → j.gate ≡ gate_of (with_batch b.batches (queued b))
 gate_same b k j s none is = ap (λ (x : JournalState). x.gate) is ∙ s.gate ∙ sym (ap (λ (items : List Item). gate_of (with_batch b.batches items)) none)
 
-pub next_same : (b : Bookie) (k : BookieFacts) (j : JournalState) → StandsFor b k → queued b ≡ [] → j ≡ k.journal → j.next ≡ b.first + length (with_batch b.batches (queued b))
+-- the number of the next batch where no item waits
+pub next_same : (b : Bookie) (k : BookieFacts) (j : JournalState) → StandsFor b k → queued b ≡ [] → j ≡ k.journal
+    → j.next ≡ b.first + length (with_batch b.batches (queued b))
 next_same b k j s none is =
     ap (λ (x : JournalState). x.next) is ∙ s.next ∙ sym (ap (λ (items : List Item). b.first + length (with_batch b.batches items)) none)
 
 -- ---- the replies
 
 -- a reply is told as after the batch
-told_same : (ledgers : Ledgers) (items : List Item) → ((l : ℕ) → greatest_of (ledger_at ledgers l) ≡ greatest l items) → (m : Msg) → told_by ledgers m ≡ told_after items m
+told_same : (ledgers : Ledgers) (items : List Item) → ((l : ℕ) → greatest_of (ledger_at ledgers l) ≡ greatest l items) → (m : Msg)
+    → told_by ledgers m ≡ told_after items m
 told_same ledgers items counts (LacIs t l f n) = ap (LacIs t l f) (counts l)
 told_same ledgers items counts m = refl
 
@@ -238,9 +249,11 @@ replies_same ledgers items counts pool (q ∷ qs) (w ∷ ws) z = λ i.
     }) ∷ replies_same ledgers items counts pool qs ws z.1 i
 
 -- by the tables after the commit
-pub replies_after : (b : Bookie) (k n : BookieFacts) → StandsFor b k → StandsFor (committed b) n → map ruled_reply (map (reply_for n.ledgers) k.queue) ≡ replies_of b
+pub replies_after : (b : Bookie) (k n : BookieFacts) → StandsFor b k → StandsFor (committed b) n
+    → map ruled_reply (map (reply_for n.ledgers) k.queue) ≡ replies_of b
 replies_after b k n s after =
-    replies_same n.ledgers (all_items b) (λ l. greatest_is (committed b) n after.tables l ∙ ap (greatest l) (durable_items_only_grow b).commit) k.pool k.queue b.queue s.queue
+    replies_same n.ledgers (all_items b) (λ l. greatest_is (committed b) n after.tables l
+    ∙ ap (greatest l) (durable_items_only_grow b).commit) k.pool k.queue b.queue s.queue
 
 -- ---- the call
 
@@ -255,19 +268,29 @@ commits_written old new b k n replies result s some c stands answers = record {
   answers = answers;
   calls = subst (λ (work : List DeviceCall). MakesCalls old new k.journal.file work result) (sym (calls_same k.journal (queued b) some)) c.calls;
   spends = λ waits f shown fuse told file.
-      subst (λ (work : List DeviceCall). Spends old new k.journal.file work (λ outcome left. Shows new k.journal.file (batches_of (stopped b (is_gate_open outcome left)))) f result)
+      subst (λ (work : List DeviceCall). Spends old new k.journal.file work (λ outcome left. Shows new k.journal.file (batches_of (stopped b
+      (is_gate_open outcome left)))) f result)
       (sym (calls_same k.journal (queued b) some))
       (spends_so old new k.journal.file (commit_calls k.journal (body_of (queued b)))
-      (λ outcome left. Shows new k.journal.file (cond (is_gate_open outcome left) (batches_of b ++ batch_of k.journal (body_of (queued b)) ∷ []) (batches_of b)))
+      (λ outcome left. Shows new k.journal.file (cond (is_gate_open outcome left) (batches_of b ++ batch_of k.journal (body_of (queued b)) ∷ [])
+      (batches_of b)))
       (λ outcome left. Shows new k.journal.file (batches_of (stopped b (is_gate_open outcome left)))) f result
       (λ outcome left. stopped_shows new b k s some (is_gate_open outcome left)) (c.spends f shown (batches_of b) fuse (file shown told)));
 }
 
 -- an image of a file without work
-image_still : (v : View) (b : Bookie) (k : BookieFacts) (shown : List ℕ) → Settled v k.journal shown (batches_of b) → LeavesOnly k.journal.file v v (HoldsEither b)
+image_still : (v : View) (b : Bookie) (k : BookieFacts) (shown : List ℕ) → Settled v k.journal shown (batches_of b)
+    → LeavesOnly k.journal.file v v (HoldsEither b)
 image_still v b k shown s t c from to image =
     let now : v.image k.journal.file v.moment c = subst (λ (m : ℕ). v.image k.journal.file m c) (moment_same v t from to) image in
-    let holds : IsJournal shown (batches_of b) = record { fits = s.fits; in_force = record { first = s.in_row.first; runs = s.in_row.runs; spells = s.spells } } in
+    let holds : IsJournal shown (batches_of b) = record {
+      fits = s.fits;
+      in_force = record {
+        first = s.in_row.first;
+        runs = s.in_row.runs;
+        spells = s.spells;
+      };
+    } in
     inl (subst (λ (bytes : List ℕ). IsJournal bytes (batches_of b)) (sym (s.on_disk.only c now)) holds)
 
 -- no item waits, and no call is made
@@ -302,7 +325,8 @@ pub record Answered (k n : BookieFacts) (replies : List Reply) (at : ℕ) : Type
   pub told : replies ≡ map (reply_for n.ledgers) k.queue
 
 -- the tables then know the queue as durable
-queue_moved : (b : Bookie) (k n : BookieFacts) (replies : List Reply) (at : ℕ) → StandsFor b k → Answered k n replies at → Moving b (queued b) [] n.entries n.ledgers
+queue_moved : (b : Bookie) (k n : BookieFacts) (replies : List Reply) (at : ℕ) → StandsFor b k → Answered k n replies at
+    → Moving b (queued b) [] n.entries n.ledgers
 queue_moved b k n replies at s a = a.settles.moved b k.pool b.queue (record {
   queue_same = s.queue;
   tables = none_moved b k.entries k.ledgers s.tables.entries s.tables.ledgers;
@@ -310,8 +334,10 @@ queue_moved b k n replies at s a = a.settles.moved b k.pool b.queue (record {
 })
 
 -- a batch was written
-pub commit_writes : (old new : View) (b : Bookie) (k n : BookieFacts) (replies : List Reply) (at : ℕ) (u : Unit {0}) → StandsFor b k → Fits k.pool k.queue k.bytes
-    → 0 < k.bytes → Committed old new k.journal n.journal (bytes_of k.pool (pieces_of k.queue)) (Ok u) → Answered k n replies at → Commits old new b k n replies (Ok u)
+pub commit_writes : (old new : View) (b : Bookie) (k n : BookieFacts) (replies : List Reply) (at : ℕ) (u : Unit {0}) → StandsFor b k
+    → Fits k.pool k.queue k.bytes
+    → 0 < k.bytes → Committed old new k.journal n.journal (bytes_of k.pool (pieces_of k.queue)) (Ok u) → Answered k n replies at
+    → Commits old new b k n replies (Ok u)
 commit_writes old new b k n replies at u s fits some c a =
     let waits : 0 < items_length (queued b) = omega (arith, some, bytes_wait b k s fits) in
     let written : Committed old new k.journal n.journal (body_of (queued b)) (Ok u) =
@@ -344,7 +370,8 @@ commit_idles v b k n replies at u s fits empty same a =
     commits_idle v b k n replies u s none same stands (ap (map ruled_reply) a.told ∙ replies_after b k n s stands)
 
 -- the call failed
-pub commit_fails : (old new : View) (b : Bookie) (k n : BookieFacts) (j : JournalState) (replies : List Reply) (fault : CommitFault) → StandsFor b k → Fits k.pool k.queue k.bytes
+pub commit_fails : (old new : View) (b : Bookie) (k n : BookieFacts) (j : JournalState) (replies : List Reply) (fault : CommitFault) → StandsFor b k
+    → Fits k.pool k.queue k.bytes
     → 0 < k.bytes → Committed old new k.journal j (bytes_of k.pool (pieces_of k.queue)) (Err fault) → n.journal ≡ j → Commits old new b k n replies (Err fault)
 commit_fails old new b k n j replies fault s fits some c same =
     let waits : 0 < items_length (queued b) = omega (arith, some, bytes_wait b k s fits) in
@@ -367,12 +394,20 @@ fits_room false n room some fits = absurd (omega (arith, some, fits))
 
 -- the gate stays below the limit
 pub gate_below : (old new : View) (j k : JournalState) (body : List ℕ) (bytes : ℕ) (result : Result (Unit {0}) CommitFault)
-    → (0 < bytes → Committed old new j k body result) → (bytes ≡ 0 → k ≡ j) → length body ≡ bytes → bytes ≤ spare_of j → j.gate < journal_limit → k.gate < journal_limit
+    → (0 < bytes → Committed old new j k body result) → (bytes ≡ 0 → k ≡ j) → length body ≡ bytes → bytes ≤ spare_of j → j.gate < journal_limit
+    → k.gate < journal_limit
 gate_below old new j k body bytes result writes idles size spare below = go (zero_or_some bytes)
   where
     behind : (r : Result (Unit {0}) CommitFault) → 0 < bytes → Committed old new j k body r → k.gate < journal_limit
     behind (Ok v) some c =
-        omega (arith, ap (λ (x : JournalState). x.gate) c.state, size, fits_room (nat_le j.next last_number) bytes (journal_limit - (j.gate + gate_size + around_body)) some spare, some)
+        omega (
+          arith,
+          ap (λ (x : JournalState). x.gate) c.state,
+          size,
+          fits_room (nat_le j.next last_number) bytes (journal_limit -
+              (j.gate + gate_size + around_body)) some spare,
+          some,
+        )
     behind (Err e) some c = omega (arith, ap (λ (x : JournalState). x.gate) c.state, below)
 
     go : (bytes ≡ 0) ⊎ (0 < bytes) → k.gate < journal_limit

@@ -1,5 +1,6 @@
 -- The pieces of a queue in the frame.
-use Rattle.std.proofs.Common.{◌≡◌, ℕ, suc, ◌+◌, ◌<◌, ◌≤◌, arith, Option, Some, None, true≢false, length-append, true, ◌==◌, nat_lt, List, [], ◌∷◌, ◌++◌, length, drop, drop-cons, add-one, slice_index_or, option_to_list, sym, refl, ap, ◌∙◌, append_assoc}
+use Rattle.std.proofs.Common.{◌≡◌, ℕ, suc, ◌+◌, ◌<◌, ◌≤◌, arith, Option, Some, None, true≢false, length-append, true, ◌==◌, nat_lt, List, [], ◌∷◌, ◌++◌}
+use Rattle.std.proofs.Common.{length, drop, drop-cons, add-one, slice_index_or, option_to_list, sym, refl, ap, ◌∙◌, append_assoc}
 use Rattle.std.specs.List.{list_any, concat}
 use Rattle.std.specs.Option.{unwrap_or}
 use Rattle.std.proofs.lemmas.Bool.{eqb-true}
@@ -14,12 +15,14 @@ use Rattle.dl_marks.proofs.BoolLemmas.{first_of, second_of, four_of, not_true, n
 use Rattle.dl_marks.proofs.KnownLemmas.{or_left}
 use Rattle.dl_bookie.proofs.PieceLemmas.{held_size, held_some, held_rest}
 
+-- a piece is apart from some first pieces
 apart_left : (p : Piece) (ps qs : List Piece) → is_apart p (ps ++ qs) ≡ true → is_apart p ps ≡ true
 apart_left p ps qs h =
     not_false (list_any (λ (r : Piece). r.span == p.span) ps)
     (or_left (list_any (λ (r : Piece). r.span == p.span) ps) (list_any (λ (r : Piece). r.span == p.span) qs)
     (sym (list_any-append (λ (r : Piece). r.span == p.span) ps qs) ∙ not_true (list_any (λ (r : Piece). r.span == p.span) (ps ++ qs)) h))
 
+-- some first pieces are held
 pub held_left : (pool : Held) (ps qs : List Piece) → is_held pool (ps ++ qs) ≡ true → is_held pool ps ≡ true
 unfolding is_held
 held_left pool [] qs h = refl
@@ -30,12 +33,14 @@ held_left pool (p ∷ ps) qs h =
     (apart_left p ps qs (first_of (is_apart p (ps ++ qs)) (is_held pool (ps ++ qs)) rest))
     (held_left pool ps qs (second_of (is_apart p (ps ++ qs)) (is_held pool (ps ++ qs)) rest))
 
+-- some last pieces are held
 pub held_right : (pool : Held) (ps qs : List Piece) → is_held pool (ps ++ qs) ≡ true → is_held pool qs ≡ true
 held_right pool [] qs h = h
 held_right pool (p ∷ ps) qs h = held_right pool ps qs (second_of (is_apart p (ps ++ qs)) (is_held pool (ps ++ qs)) (held_rest pool p (ps ++ qs) h))
 
 -- the replies from a place on: the one there, and the rest
-pub queue_from : (items : List Queued) (index : ℕ) (q : Queued) → index < length items → q ≡ slice_index_or items index q → drop index items ≡ q ∷ drop (index + 1) items
+pub queue_from : (items : List Queued) (index : ℕ) (q : Queued) → index < length items → q ≡ slice_index_or items index q
+    → drop index items ≡ q ∷ drop (index + 1) items
 queue_from items index q within is =
     drop-cons items index q within ∙ ap (λ (x : Queued). x ∷ drop (suc index) items) (sym is) ∙ ap (λ n. q ∷ drop n items) (sym (add-one index))
 
@@ -74,11 +79,21 @@ step_items pool old new before all ps rest step was =
     ∙ was
 
 -- a frame with one part more
-pub part_joined : (old new part total : List ℕ) (parts rest : List (List ℕ)) → new ≡ old ++ part → parts ≡ part ∷ rest → old ++ concat parts ≡ total → new ++ concat rest ≡ total
+pub part_joined : (old new part total : List ℕ) (parts rest : List (List ℕ)) → new ≡ old ++ part → parts ≡ part ∷ rest → old ++ concat parts ≡ total
+    → new ++ concat rest ≡ total
 part_joined old new part total parts rest step is was =
     ap (λ (xs : List ℕ). xs ++ concat rest) step ∙ append_assoc old part (concat rest) ∙ ap (λ (p : List (List ℕ)). old ++ concat p) (sym is) ∙ was
 
 -- and the room that it had for it
-pub part_fits : (len cap less more : ℕ) (part : List ℕ) (parts rest : List (List ℕ)) → less ≡ len + length part → cap ≤ more → parts ≡ part ∷ rest → len + length (concat parts) ≤ cap
+pub part_fits : (len cap less more : ℕ) (part : List ℕ) (parts rest : List (List ℕ)) → less ≡ len + length part → cap ≤ more → parts ≡ part ∷ rest
+    → len + length (concat parts) ≤ cap
     → less + length (concat rest) ≤ more
-part_fits len cap less more part parts rest step room is fits = omega (arith, step, room, fits, ap (λ (p : List (List ℕ)). length (concat p)) is, length-append part (concat rest))
+part_fits len cap less more part parts rest step room is fits = omega (
+  arith,
+  step,
+  room,
+  fits,
+  ap (λ (p : List (List ℕ)). length
+      (concat p)) is,
+  length-append part (concat rest),
+)

@@ -1,5 +1,6 @@
 -- What a look finds is what the node finds.
-use Rattle.std.proofs.Common.{◌≡◌, ℕ, Bool, true, false, ◌||◌, List, [], ◌∷◌, ◌++◌, length, Option, Some, None, is_some, find, Result, Ok, Err, if◌then◌else◌, true≢false, sym, refl, ap, subst, ◌∙◌}
+use Rattle.std.proofs.Common.{◌≡◌, ℕ, Bool, true, false, ◌||◌, List, [], ◌∷◌, ◌++◌, length, Option, Some, None, is_some, find, Result, Ok, Err, if◌then◌else◌}
+use Rattle.std.proofs.Common.{true≢false, sym, refl, ap, subst, ◌∙◌}
 use Rattle.std.specs.List.{list_any, AllByRecursion}
 use Rattle.dl_depot.specs.View.{View}
 use Rattle.dl_depot.specs.Device.{Looks}
@@ -39,7 +40,8 @@ found_whole : (l e : ℕ) (xs : List Item) (x : Item) → AllByRecursion HasEntr
 found_whole l e [] x all is = absurd cc
 found_whole l e (y ∷ xs) x all is = go (is_entry l e y) refl (found_whole l e xs x all.1) is
   where
-    go : (t : Bool) → is_entry l e y ≡ t → (find (is_entry l e) xs ≡ Some x → IsEntryBytes (entry_in x)) → (if t then Some y else find (is_entry l e) xs) ≡ Some x → IsEntryBytes (entry_in x)
+    go : (t : Bool) → is_entry l e y ≡ t → (find (is_entry l e) xs ≡ Some x → IsEntryBytes (entry_in x))
+        → (if t then Some y else find (is_entry l e) xs) ≡ Some x → IsEntryBytes (entry_in x)
     go true w rest same = subst (λ (z : Item). IsEntryBytes (entry_in z)) (some_same y x same) (entry_whole l e y w all.0)
     go false w rest same = rest same
 
@@ -53,7 +55,8 @@ find_some : (l e : ℕ) (xs : List Item) → is_some (find (is_entry l e) xs) �
 find_some l e [] = refl
 find_some l e (x ∷ xs) = go (is_entry l e x) (find_some l e xs)
   where
-    go : (t : Bool) → is_some (find (is_entry l e) xs) ≡ list_any (is_entry l e) xs → is_some (if t then Some x else find (is_entry l e) xs) ≡ (t || list_any (is_entry l e) xs)
+    go : (t : Bool) → is_some (find (is_entry l e) xs) ≡ list_any (is_entry l e) xs
+        → is_some (if t then Some x else find (is_entry l e) xs) ≡ (t || list_any (is_entry l e) xs)
     go true rest = refl
     go false rest = rest
 
@@ -69,7 +72,13 @@ pub place_is : (b : Bookie) (k : BookieFacts) → TablesStand b k → (l e : ℕ
 place_is b k t l e = ap place_by (t.entries l e) ∙ go (list_any (is_entry l e) (all_items b)) refl
   where
     go : (s : Bool) → list_any (is_entry l e) (all_items b) ≡ s
-        → place_by (if s then Some (record { added = list_any (is_add l e) (durable b); place = place_of b.batches l e; adding = list_any (is_add l e) (queued b); coming = list_any (is_entry l e) (queued b) }) else None) ≡ place_of b.batches l e
+        → place_by (if s then Some (record {
+          added = list_any (is_add l e) (durable b);
+          place = place_of b.batches l e;
+          adding = list_any (is_add l e)
+              (queued b);
+          coming = list_any (is_entry l e) (queued b);
+        }) else None) ≡ place_of b.batches l e
     go true w = refl
     go false w = sym (place_none b l e (no_all (is_entry l e) (durable b) (queued b) w).0)
 
@@ -92,16 +101,19 @@ pub answers_now : (v : View) (b : Bookie) (k : BookieFacts) (t l e : ℕ) → St
     → LooksUp v v b k (AskEntry t l e) (Ok (NoEntry t l e (is_fenced (ledger_at k.ledgers l))))
 unfolding looked
 answers_now v b k t l e s none =
-    let wanted : looked b (AskEntry t l e) ≡ NoEntry t l e (fenced b l) = ap (entry_answer b t l e) (nothing_there b l e (sym (place_is b k s.tables l e) ∙ none)) in
+    let wanted : looked b (AskEntry t l e) ≡ NoEntry t l e (fenced b l) = ap (entry_answer b t l e) (nothing_there b l e (sym (place_is b k s.tables l e)
+    ∙ none)) in
     let same : NoEntry t l e (is_fenced (ledger_at k.ledgers l)) ≡ looked b (AskEntry t l e) = ap (NoEntry t l e) (fenced_is b k s.tables l) ∙ sym wanted in
     record {
-      answer = subst (λ (m : Msg). Rattle.dl_bookie.specs.Looking.IsLike m (NoEntry t l e (is_fenced (ledger_at k.ledgers l)))) (sym wanted) (ap (NoEntry t l e) (fenced_is b k s.tables l));
+      answer = subst (λ (m : Msg). Rattle.dl_bookie.specs.Looking.IsLike m (NoEntry t l e (is_fenced (ledger_at k.ledgers l)))) (sym wanted) (ap
+          (NoEntry t l e) (fenced_is b k s.tables l));
       whole = tt;
       told = λ shown told file. same;
       undamaged = λ shown told file at is. cc;
       on_file = λ file. file;
     }
 
+-- the answer about a ledger
 pub answers_lac : (v : View) (b : Bookie) (k : BookieFacts) (t l : ℕ) (f : Bool) → StandsFor b k
     → LooksUp v v b k (AskLac t l f) (Ok (LacIs t l (is_fenced (ledger_at k.ledgers l)) (greatest_of (ledger_at k.ledgers l))))
 unfolding looked
@@ -115,10 +127,12 @@ entry_shown : (v : View) (b : Bookie) (k : BookieFacts) (l e : ℕ) (p : Place) 
     → place_of b.batches l e ≡ Some p → find (is_entry l e) (durable b) ≡ Some x → (bytes_in shown p ≡ entry_in x) × (p.size ≡ length (entry_in x))
 entry_shown v b k l e p x shown s place found =
     subst (λ (o : Option Item). Shows shown (Some p) o) found
-    (subst (λ (o : Option Place). Shows shown o (find (is_entry l e) (durable b))) place (file_shows b shown (s.spells.gate ∷ s.spells.free) l e s.spells.spelled))
+    (subst (λ (o : Option Place). Shows shown o (find (is_entry l e) (durable b))) place (file_shows b shown
+    (s.spells.gate ∷ s.spells.free) l e s.spells.spelled))
 
 -- an answer from the file
-pub answers_entry : (old new : View) (b : Bookie) (k : BookieFacts) (t l e : ℕ) (p : Place) (bytes : List ℕ) → StandsFor b k → place_by (marks_at k.entries l e) ≡ Some p
+pub answers_entry : (old new : View) (b : Bookie) (k : BookieFacts) (t l e : ℕ) (p : Place) (bytes : List ℕ) → StandsFor b k
+    → place_by (marks_at k.entries l e) ≡ Some p
     → ReadsBack old new k.journal.file p (Ok bytes) → LooksUp old new b k (AskEntry t l e) (Ok (EntryIs t l e bytes))
 unfolding looked
 answers_entry old new b k t l e p bytes s is read =
@@ -128,7 +142,8 @@ answers_entry old new b k t l e p bytes s is read =
     record {
       answer = subst (λ (m : Msg). Rattle.dl_bookie.specs.Looking.IsLike m (EntryIs t l e bytes)) (sym wanted) (refl, (refl, refl));
       whole = read.whole;
-      told = λ shown told file. ap (EntryIs t l e) (read.found shown told ∙ (entry_shown old b k l e p item.0 shown (file shown told) place item.1).0) ∙ sym wanted;
+      told = λ shown told file. ap (EntryIs t l e) (read.found shown told ∙ (entry_shown old b k l e p item.0 shown (file shown told) place item.1).0)
+          ∙ sym wanted;
       undamaged = λ shown told file at damaged. cc;
       on_file = file_looks old new b k read.looks;
     }
@@ -138,7 +153,8 @@ fault_same : (x y : LookFault) → ◌≡◌ {A = Result Msg LookFault} (Err x) 
 fault_same x y e = cc
 
 -- no answer from the file
-pub answers_none : (old new : View) (b : Bookie) (k : BookieFacts) (t l e : ℕ) (p : Place) (fault : LookFault) → StandsFor b k → place_by (marks_at k.entries l e) ≡ Some p
+pub answers_none : (old new : View) (b : Bookie) (k : BookieFacts) (t l e : ℕ) (p : Place) (fault : LookFault) → StandsFor b k
+    → place_by (marks_at k.entries l e) ≡ Some p
     → ReadsBack old new k.journal.file p (Err fault) → LooksUp old new b k (AskEntry t l e) (Err fault)
 answers_none old new b k t l e p fault s is read =
     let place : place_of b.batches l e ≡ Some p = sym (place_is b k s.tables l e) ∙ is in

@@ -22,6 +22,7 @@ abbrev pub item_in : Row → Item → Option Item
 item_in (Stores reply) item = Some item
 item_in row item = None
 
+-- the reply of a row
 abbrev pub reply_in : Row → Msg
 reply_in (Answers reply) = reply
 reply_in (Queues reply) = reply
@@ -32,6 +33,7 @@ abbrev pub IsQueue : Row → Type 0
 IsQueue (Answers reply) = ⊥
 IsQueue _ = Unit {0}
 
+-- a row that queues is ruled by what lacks
 ruled_as : (b : rules.Bookie) (row : Row) (h : Head) (bytes : List ℕ) → IsQueue row → (lack : Option Resource)
     → rules.lacking b (ledger_in h) (entry_named h) (item_in row (item_of h bytes)) ≡ lack
     → ruled b row h bytes ≡ rules.if_room (ledger_in h) (entry_named h) (reply_in row) (item_in row (item_of h bytes)) lack
@@ -39,10 +41,12 @@ ruled_as b (Answers reply) h bytes is lack same = absurd is
 ruled_as b (Queues reply) h bytes is lack same = ap (rules.if_room (ledger_in h) (entry_named h) reply None) same
 ruled_as b (Stores reply) h bytes is lack same = ap (rules.if_room (ledger_in h) (entry_named h) reply (Some (item_of h bytes))) same
 
+-- a row that answers
 pub follows_answer : (b : rules.Bookie) (k : BookieFacts) (client session : ℕ) (reply : Msg) (h : Head) (bytes : List ℕ)
     → StandsFor b k → Follows b k client session (Answers reply) h bytes (outcome.Answer reply)
 follows_answer b k client session reply h bytes s = record { answer = refl; stands = s }
 
+-- a row for which something lacks
 pub follows_full : (b : rules.Bookie) (k : BookieFacts) (client session : ℕ) (row : Row) (h : Head) (bytes : List ℕ) (what : Resource) → IsQueue row
     → StandsFor b k → Fits k.pool k.queue k.bytes → lack_of k h (length_for (item_in row (item_of h bytes))) ≡ Some what
     → Follows b k client session row h bytes (outcome.Answer (Full what (ledger_in h) (rules.named (entry_named h))))
@@ -53,6 +57,7 @@ follows_full b k client session row h bytes what is s fits lack =
       stands = subst (λ t. StandsFor (rules.after b client session t) k) (sym same) s;
     }
 
+-- a row for which nothing lacks
 pub follows_queued : (b : rules.Bookie) (k now : BookieFacts) (client session : ℕ) (row : Row) (h : Head) (bytes : List ℕ) → IsQueue row
     → StandsFor b k → Fits k.pool k.queue k.bytes → lack_of k h (length_for (item_in row (item_of h bytes))) ≡ None
     → StandsFor (rules.waits b (record { client = client; session = session; reply = reply_in row; item = item_in row (item_of h bytes) })) now

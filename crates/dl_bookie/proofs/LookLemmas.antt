@@ -1,5 +1,6 @@
 -- The bytes of an entry stand in the file at its place.
-use Rattle.std.proofs.Common.{◌≡◌, ℕ, suc, ◌+◌, ◌-◌, ◌<◌, ◌≤◌, Bool, true, false, List, [], ◌∷◌, ◌++◌, length, take, drop, flat_map, Option, Some, None, find, if◌then◌else◌, sym, refl, ap, subst, ◌∙◌, arith, append_assoc, length-append, drop-drop}
+use Rattle.std.proofs.Common.{◌≡◌, ℕ, suc, ◌+◌, ◌-◌, ◌<◌, ◌≤◌, Bool, true, false, List, [], ◌∷◌, ◌++◌, length, take, drop, flat_map, Option, Some, None, find}
+use Rattle.std.proofs.Common.{if◌then◌else◌, sym, refl, ap, subst, ◌∙◌, arith, append_assoc, length-append, drop-drop}
 use Rattle.std.specs.Int.{w32, w64}
 use Rattle.std.proofs.Math.Seq.{drop-append-add}
 use Rattle.std.proofs.lemmas.List.{drop-append-le}
@@ -57,7 +58,8 @@ batch_shows front rest at (x ∷ xs) l e size = go (is_entry l e x) refl
     (batch_shows (front ++ item_bytes x) rest (at + item_length x) xs l e (omega (arith, size, length-append front (item_bytes x), length-item_bytes x))))
   where
     go : (t : Bool) → is_entry l e x ≡ t → Shows (front ++ (body_of (x ∷ xs) ++ rest)) (place_in (at + item_length x) xs l e) (find (is_entry l e) xs)
-        → Shows (front ++ (body_of (x ∷ xs) ++ rest)) (if t then Some (record { at = at + 29; size = length (entry_in x) }) else place_in (at + item_length x) xs l e) (if t then Some x else find (is_entry l e) xs)
+        → Shows (front ++ (body_of (x ∷ xs) ++ rest)) (if t then Some (record { at = at + 29; size = length (entry_in x) })
+        else place_in (at + item_length x) xs l e) (if t then Some x else find (is_entry l e) xs)
     go true w more = (
       ap (λ (ys : List ℕ). take (length (entry_in x)) (drop (at + 29) (front ++ ys))) (append_assoc (item_bytes x) (body_of xs) rest)
           ∙ here front (body_of xs ++ rest) at l e x size w,
@@ -77,7 +79,8 @@ find_append : (p : Item → Bool) (xs ys : List Item) → find p (xs ++ ys) ≡ 
 find_append p [] ys = refl
 find_append p (x ∷ xs) ys = go (p x) (find_append p xs ys)
   where
-    go : (t : Bool) → find p (xs ++ ys) ≡ or_item (find p xs) (find p ys) → (if t then Some x else find p (xs ++ ys)) ≡ or_item (if t then Some x else find p xs) (find p ys)
+    go : (t : Bool) → find p (xs ++ ys) ≡ or_item (find p xs) (find p ys) → (if t then Some x else find p (xs ++ ys))
+        ≡ or_item (if t then Some x else find p xs) (find p ys)
     go true rest = refl
     go false rest = rest
 
@@ -91,7 +94,13 @@ shows_or bytes None q None y here there = there
 -- a body is as long as its items
 length_body : (xs : List Item) → length (body_of xs) ≡ items_length xs
 length_body [] = refl
-length_body (x ∷ xs) = omega (arith, length-append (item_bytes x) (body_of xs), length-item_bytes x, length_body xs, Rattle.std.proofs.lemmas.List.Sums.sum_by-cons item_length x xs)
+length_body (x ∷ xs) = omega (
+  arith,
+  length-append (item_bytes x) (body_of xs),
+  length-item_bytes x,
+  length_body xs,
+  Rattle.std.proofs.lemmas.List.Sums.sum_by-cons item_length x xs,
+)
 
 -- what stands before a batch's body
 abbrev pub head_of : ℕ → List Item → List ℕ
@@ -103,7 +112,8 @@ spell_cons : (first : ℕ) (items : List Item) (more : List (List Item)) (rest :
 unfolding frame_of
 spell_cons first items more rest =
     ap (λ (ys : List ℕ). 1 ∷ ys)
-    (ap (λ (ys : List ℕ). ys ++ rest) (ap (λ (ys : List ℕ). ys ++ spell (numbered (first + 1) more)) (sym (append_assoc (to_be_bytes w64 first) (to_be_bytes w32 (length (body_of items))) (body_of items))))
+    (ap (λ (ys : List ℕ). ys ++ rest) (ap (λ (ys : List ℕ). ys ++ spell (numbered (first + 1) more)) (sym (append_assoc (to_be_bytes w64 first)
+    (to_be_bytes w32 (length (body_of items))) (body_of items))))
     ∙ append_assoc ((to_be_bytes w64 first ++ to_be_bytes w32 (length (body_of items))) ++ body_of items) (spell (numbered (first + 1) more)) rest
     ∙ append_assoc (to_be_bytes w64 first ++ to_be_bytes w32 (length (body_of items))) (body_of items) (spell (numbered (first + 1) more) ++ rest))
 
@@ -118,18 +128,24 @@ batches_show front rest gate first [] l e size = tt {0}
 batches_show front rest gate first (items ∷ more) l e size =
     let head = head_of first items in
     let tail : List ℕ = spell (numbered (first + 1) more) ++ rest in
-    let whole : front ++ (spell (numbered first (items ∷ more)) ++ rest) ≡ front ++ (head ++ (body_of items ++ tail)) = ap (λ (ys : List ℕ). front ++ ys) (spell_cons first items more rest) in
+    let whole : front ++ (spell (numbered first (items ∷ more)) ++ rest) ≡ front ++ (head ++ (body_of items ++ tail)) = ap (λ (ys : List ℕ). front ++ ys)
+    (spell_cons first items more rest) in
     let one = batch_shows (front ++ head) tail (gate + 13) items l e (omega (arith, size, length-append front head, length_head first items)) in
     let two = batches_show ((front ++ head) ++ body_of items) rest (gate + (13 + items_length items)) (first + 1) more l e
     (omega (arith, size, length-append (front ++ head) (body_of items), length-append front head, length_head first items, length_body items)) in
     let bytes : List ℕ = front ++ (spell (numbered first (items ∷ more)) ++ rest) in
-    subst (Shows bytes (or_place (place_in (gate + 13) items l e) (place_from (gate + (13 + items_length items)) more l e))) (sym (find_append (is_entry l e) items (flat_map (λ x. x) more)))
-    (shows_or bytes (place_in (gate + 13) items l e) (place_from (gate + (13 + items_length items)) more l e) (find (is_entry l e) items) (find (is_entry l e) (flat_map (λ x. x) more))
-    (subst (λ (ys : List ℕ). Shows ys (place_in (gate + 13) items l e) (find (is_entry l e) items)) (append_assoc front head (body_of items ++ tail) ∙ sym whole) one)
+    subst (Shows bytes (or_place (place_in (gate + 13) items l e) (place_from (gate + (13 + items_length items)) more l e))) (sym (find_append
+    (is_entry l e) items (flat_map (λ x. x) more)))
+    (shows_or bytes (place_in (gate + 13) items l e) (place_from (gate + (13 + items_length items)) more l e) (find (is_entry l e) items) (find
+    (is_entry l e) (flat_map (λ x. x) more))
+    (subst (λ (ys : List ℕ). Shows ys (place_in (gate + 13) items l e) (find (is_entry l e) items)) (append_assoc front head (body_of items ++ tail)
+    ∙ sym whole) one)
     (subst (λ (ys : List ℕ). Shows ys (place_from (gate + (13 + items_length items)) more l e) (find (is_entry l e) (flat_map (λ x. x) more)))
     (append_assoc (front ++ head) (body_of items) tail ∙ append_assoc front head (body_of items ++ tail) ∙ sym whole) two))
 
 -- the bytes of a journal with these batches in force show each entry at its place
-pub file_shows : (b : Bookie) (bytes rest : List ℕ) (l e : ℕ) → bytes ≡ magic ++ (spell (batches_of b) ++ rest) → Shows bytes (place_of b.batches l e) (find (is_entry l e) (durable b))
+pub file_shows : (b : Bookie) (bytes rest : List ℕ) (l e : ℕ) → bytes ≡ magic ++ (spell (batches_of b) ++ rest)
+    → Shows bytes (place_of b.batches l e) (find (is_entry l e) (durable b))
 file_shows b bytes rest l e spelled =
-    subst (λ (ys : List ℕ). Shows ys (place_of b.batches l e) (find (is_entry l e) (durable b))) (sym spelled) (batches_show magic rest 8 b.first b.batches l e refl)
+    subst (λ (ys : List ℕ). Shows ys (place_of b.batches l e) (find (is_entry l e) (durable b))) (sym spelled)
+    (batches_show magic rest 8 b.first b.batches l e refl)

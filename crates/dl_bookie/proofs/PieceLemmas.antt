@@ -1,5 +1,6 @@
 -- A piece more in the pool, and a piece less.
-use Rattle.std.proofs.Common.{rules, ◌≡◌, ◌≢◌, ℕ, ◌+◌, ◌*◌, ◌<◌, ◌≤◌, true, false, ◌&&◌, ◌==◌, nat_lt, List, [], ◌∷◌, ◌++◌, length, option_to_list, Option, Some, None, IsSome, true≢false, sym, refl, ap, subst, ◌∙◌, arith, length-append}
+use Rattle.std.proofs.Common.{rules, ◌≡◌, ◌≢◌, ℕ, ◌+◌, ◌*◌, ◌<◌, ◌≤◌, true, false, ◌&&◌, ◌==◌, nat_lt, List, [], ◌∷◌, ◌++◌, length, option_to_list, Option}
+use Rattle.std.proofs.Common.{Some, None, IsSome, true≢false, sym, refl, ap, subst, ◌∙◌, arith, length-append}
 use Rattle.std.specs.List.{list_any}
 use Rattle.std.proofs.lemmas.List.Folds.{list_any-append}
 use Rattle.std.proofs.lemmas.List.Sums.{sum_by-append, sum_by-cons}
@@ -19,9 +20,11 @@ absent found size none is = true≢false (sym is ∙ ap (λ f. size_is f size) n
 pub spans_differ : (pool : Held) (s t size : ℕ) → size_is (bytes_at pool s) size ≡ true → bytes_at pool t ≡ None → s ≢ t
 spans_differ pool s t size is none same = absent (bytes_at pool s) size (ap (bytes_at pool) same ∙ none) is
 
+-- numbers that differ are not equal
 eq_false : (a b : ℕ) → a ≢ b → (a == b) ≡ false
 eq_false a b differ = search (rules, differ)
 
+-- a piece is apart from one more that has another span
 apart_push : (q p : Piece) (ps : List Piece) → is_apart q ps ≡ true → p.span ≢ q.span → is_apart q (ps ++ p ∷ []) ≡ true
 apart_push q p ps apart differ =
     not_false (list_any (λ (r : Piece). r.span == q.span) (ps ++ p ∷ []))
@@ -40,16 +43,21 @@ there_live : (found : Option (List ℕ)) (size : ℕ) → size_is found size ≡
 there_live None size is = absurd (true≢false (sym is))
 there_live (Some bytes) size is = refl
 
+-- the first of held pieces is live
 pub held_live : (pool : Held) (p : Piece) (ps : List Piece) → is_held pool (p ∷ ps) ≡ true → IsLive pool p.span
 held_live pool p ps held = there_live (bytes_at pool p.span) p.size (held_size pool p ps held)
 
+-- the first of held pieces has a byte
 pub held_some : (pool : Held) (p : Piece) (ps : List Piece) → is_held pool (p ∷ ps) ≡ true → nat_lt 0 p.size ≡ true
 unfolding is_held
-held_some pool p ps h = first_of (nat_lt 0 p.size) (is_apart p ps && is_held pool ps) (second_of (size_is (bytes_at pool p.span) p.size) (nat_lt 0 p.size && (is_apart p ps && is_held pool ps)) h)
+held_some pool p ps h = first_of (nat_lt 0 p.size) (is_apart p ps && is_held pool ps) (second_of (size_is (bytes_at pool p.span) p.size)
+    (nat_lt 0 p.size && (is_apart p ps && is_held pool ps)) h)
 
+-- the others are apart from it, and held
 pub held_rest : (pool : Held) (p : Piece) (ps : List Piece) → is_held pool (p ∷ ps) ≡ true → (is_apart p ps && is_held pool ps) ≡ true
 unfolding is_held
-held_rest pool p ps h = second_of (nat_lt 0 p.size) (is_apart p ps && is_held pool ps) (second_of (size_is (bytes_at pool p.span) p.size) (nat_lt 0 p.size && (is_apart p ps && is_held pool ps)) h)
+held_rest pool p ps h = second_of (nat_lt 0 p.size) (is_apart p ps && is_held pool ps) (second_of (size_is (bytes_at pool p.span) p.size)
+    (nat_lt 0 p.size && (is_apart p ps && is_held pool ps)) h)
 
 -- the pool holds one more
 pub held_push : (pool then : Held) (bytes : List ℕ) (p : Piece) (ps : List Piece) → Adds pool p.span bytes then → 0 < length bytes → p.size ≡ length bytes
@@ -67,6 +75,7 @@ held_push pool then bytes p (q ∷ ps) adds some size h =
     (apart_push q p ps (first_of (is_apart q ps) (is_held pool ps) rest) (λ same. differ (sym same)))
     (held_push pool then bytes p ps adds some size (second_of (is_apart q ps) (is_held pool ps) rest))
 
+-- sums of bytes and of pages
 sums_few : (a b c d : ℕ) → a ≤ b * 4096 → c ≤ d * 4096 → a + c ≤ (b + d) * 4096
 sums_few a b c d x y = omega (arith, x, y)
 

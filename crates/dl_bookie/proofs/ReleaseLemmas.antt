@@ -1,5 +1,6 @@
 -- The pieces of a queue are freed one by one.
-use Rattle.std.proofs.Common.{◌≡◌, ℕ, ◌+◌, true, false, ◌==◌, nat_lt, List, [], ◌∷◌, ◌++◌, length, option_to_list, Option, Some, None, true≢false, sym, refl, ap, ◌∙◌, arith}
+use Rattle.std.proofs.Common.{◌≡◌, ℕ, ◌+◌, true, false, ◌==◌, nat_lt, List, [], ◌∷◌, ◌++◌, length, option_to_list, Option, Some, None, true≢false, sym, refl}
+use Rattle.std.proofs.Common.{ap, ◌∙◌, arith}
 use Rattle.std.specs.List.{list_any}
 use Rattle.std.proofs.lemmas.Bool.{eqb-true, eqb-false}
 use Rattle.std.proofs.lemmas.List.Sums.{sum_by-cons}
@@ -27,7 +28,8 @@ rest_held pool less bytes p (q ∷ qs) adds apart is =
     four_of (size_is (bytes_at less q.span) q.size) (nat_lt 0 q.size) (is_apart q qs) (is_held less qs)
     (other_held pool less bytes p q adds (or_left (q.span == p.span) (list_any (λ (r : Piece). r.span == p.span) qs) apart) (held_size pool q qs is))
     (held_some pool q qs is) (first_of (is_apart q qs) (is_held pool qs) rest)
-    (rest_held pool less bytes p qs adds (or_right (q.span == p.span) (list_any (λ (r : Piece). r.span == p.span) qs) apart) (second_of (is_apart q qs) (is_held pool qs) rest))
+    (rest_held pool less bytes p qs adds (or_right (q.span == p.span) (list_any (λ (r : Piece). r.span == p.span) qs) apart) (second_of (is_apart q qs)
+    (is_held pool qs) rest))
 
 -- the bytes of a held piece
 bytes_there : (found : Option (List ℕ)) (size : ℕ) → size_is found size ≡ true → (bytes : List ℕ) × ((found ≡ Some bytes) × (length bytes ≡ size))
@@ -35,7 +37,8 @@ bytes_there None size is = absurd (true≢false (sym is))
 bytes_there (Some bytes) size is = (bytes, (refl, eqb-true (length bytes) size is))
 
 -- the first reply's piece is freed: the others are still held
-pub held_after : (pool less : Held) (o : Option Piece) (ps : List Piece) → FreesPiece pool less o → is_held pool (option_to_list o ++ ps) ≡ true → is_held less ps ≡ true
+pub held_after : (pool less : Held) (o : Option Piece) (ps : List Piece) → FreesPiece pool less o → is_held pool (option_to_list o ++ ps) ≡ true
+    → is_held less ps ≡ true
 held_after pool less None ps frees held = ap (λ h. is_held h ps) frees ∙ held
 held_after pool less (Some p) ps frees held =
     let rest = held_rest pool p ps held in
@@ -65,7 +68,8 @@ fits_new pool queue fresh none = record {
 }
 
 -- and when both were emptied
-pub fits_empty : (old new : Held) (was now : List Queued) (bytes : ℕ) → Fits old was bytes → spare new ≡ spare old + total_pages (pieces_of was) → now ≡ [] → Fits new now 0
+pub fits_empty : (old new : Held) (was now : List Queued) (bytes : ℕ) → Fits old was bytes → spare new ≡ spare old + total_pages (pieces_of was)
+    → now ≡ [] → Fits new now 0
 unfolding is_held
 fits_empty old new was now bytes fits pages none = record {
   held = ap (λ (qs : List Queued). is_held new (pieces_of qs)) none;

@@ -1,5 +1,6 @@
 -- What a bookie lacks is what the node that it stands for lacks.
-use Rattle.std.proofs.Common.{◌≡◌, ℕ, ◌+◌, Bool, true, false, not, ◌&&◌, nat_lt, nat_le, List, [], ◌∷◌, ◌++◌, option_to_list, Option, Some, None, is_some, if◌then◌else◌, sym, refl, ap, ◌∙◌, arith}
+use Rattle.std.proofs.Common.{◌≡◌, ℕ, ◌+◌, Bool, true, false, not, ◌&&◌, nat_lt, nat_le, List, [], ◌∷◌, ◌++◌, option_to_list, Option, Some, None, is_some}
+use Rattle.std.proofs.Common.{if◌then◌else◌, sym, refl, ap, ◌∙◌, arith}
 use Rattle.std.specs.List.{list_any}
 use Rattle.std.proofs.lemmas.Slice.Zip.{AllZip-long}
 use Rattle.std.proofs.lemmas.List.Sums.{sum_by-append}
@@ -29,22 +30,26 @@ abbrev pub length_for : Option Item → ℕ
 length_for None = 0
 length_for (Some x) = item_length x
 
+-- no bytes need no page
 pages_of_zero : pages_of 0 ≡ 0
 unfolding pages_of
 pages_of_zero = refl
 
+-- the pages of an item that there may be
 pages_for_same : (item : Option Item) → pages_of (length_for item) ≡ pages_for item
 pages_for_same None = pages_of_zero
 pages_for_same (Some x) = refl
 
 -- an entry is in the table exactly where an item has it
-known_some : (before todo : List Item) (place : Option Place) (l e : ℕ) → is_some (entry_known before todo [] place l e) ≡ list_any (is_entry l e) (before ++ todo)
+known_some : (before todo : List Item) (place : Option Place) (l e : ℕ)
+    → is_some (entry_known before todo [] place l e) ≡ list_any (is_entry l e) (before ++ todo)
 known_some before todo place l e = go _ (list_any (is_entry l e) (before ++ todo))
   where
     go : {A : Type 0} (a : A) (t : Bool) → is_some (if t then Some a else None) ≡ t
     go a true = refl
     go a false = refl
 
+-- a ledger is in the table exactly where an item is of it
 ledger_some : (before todo : List Item) (l : ℕ) → is_some (ledger_known before todo [] l) ≡ list_any (is_of l) (before ++ todo)
 ledger_some before todo l = go _ (list_any (is_of l) (before ++ todo))
   where
@@ -52,17 +57,21 @@ ledger_some before todo l = go _ (list_any (is_of l) (before ++ todo))
     go a true = refl
     go a false = refl
 
+-- the same of what is kept
 pub entry_there : (b : Bookie) (k : BookieFacts) → TablesStand b k → (l e : ℕ) → is_some (marks_at k.entries l e) ≡ list_any (is_entry l e) (all_items b)
 entry_there b k t l e = ap is_some (t.entries l e) ∙ known_some (durable b) (queued b) (Rattle.dl_marks.specs.Places.place_of b.batches l e) l e
 
+-- and of a ledger
 pub ledger_there : (b : Bookie) (k : BookieFacts) → TablesStand b k → (l : ℕ) → is_some (ledger_at k.ledgers l) ≡ list_any (is_of l) (all_items b)
 ledger_there b k t l = ap is_some (t.ledgers l) ∙ ledger_some (durable b) (queued b) l
 
+-- an entry is new in the table where it is for the node
 new_entry_same : (b : Bookie) (k : BookieFacts) → TablesStand b k → (h : Head) → names_new k.entries h ≡ names_new_entry b (ledger_in h) (entry_named h)
 new_entry_same b k t (head.Add l e n) = ap not (entry_there b k t l e)
 new_entry_same b k t (head.Copy l e n) = ap not (entry_there b k t l e)
 new_entry_same b k t (head.Fence l) = refl
 
+-- the spare pages
 pub spare_same : (b : Bookie) (k : BookieFacts) → StandsFor b k → Fits k.pool k.queue k.bytes → spare k.pool ≡ spare_pages b
 spare_same b k s fits = omega (arith, fits.pages, pages_same k.pool k.queue b.queue s.queue)
 
@@ -70,9 +79,11 @@ spare_same b k s fits = omega (arith, fits.pages, pages_same k.pool k.queue b.qu
 room_same : (j : JournalState) → spare_of j ≡ room_for_body j.next j.gate
 room_same j = grind (arith, nat_tests)
 
+-- the room of the journal
 pub journal_same : (b : Bookie) (k : BookieFacts) → StandsFor b k → spare_of k.journal ≡ journal_spare b
 journal_same b k s = room_same k.journal ∙ (λ i. room_for_body (s.next i) (s.gate i))
 
+-- the bytes that would wait
 pub bytes_same : (b : Bookie) (k : BookieFacts) → StandsFor b k → Fits k.pool k.queue k.bytes → (item : Option Item)
     → k.bytes + length_for item ≡ items_length (queued b ++ option_to_list item)
 bytes_same b k s fits None =

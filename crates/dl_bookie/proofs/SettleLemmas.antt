@@ -1,5 +1,6 @@
 -- The items of a queue become durable one by one.
-use Rattle.std.proofs.Common.{◌≡◌, ℕ, ◌+◌, ◌-◌, List, [], ◌∷◌, ◌++◌, length, option_to_list, Option, Some, None, sym, refl, ap, subst, ◌∙◌, arith, append_assoc, append-nil}
+use Rattle.std.proofs.Common.{◌≡◌, ℕ, ◌+◌, ◌-◌, List, [], ◌∷◌, ◌++◌, length, option_to_list, Option, Some, None, sym, refl, ap, subst, ◌∙◌, arith}
+use Rattle.std.proofs.Common.{append_assoc, append-nil}
 use Rattle.std.specs.List.{AllZip}
 use Rattle.std.proofs.lemmas.List.Sums.{sum_by-append}
 use Rattle.dl_pool.specs.Pools.{Held}
@@ -31,7 +32,15 @@ pub record Half (b : Bookie) (pool : Held) (ws : List Waiting) (left : List Queu
 -- before the first one
 pub half_starts : (b : Bookie) (pool : Held) (queue : List Queued) (ws : List Waiting) (at : ℕ) (entries : Entries) (ledgers : Ledgers)
     → AllWait b pool queue ws at entries ledgers → Half b pool ws queue at entries ledgers
-half_starts b pool queue ws at entries ledgers w = record { done = []; todo = ws; all = refl; queue = w.queue_same; tables = w.tables; place = omega (arith, w.place) }
+half_starts b pool queue ws at entries ledgers w = record {
+  done = [];
+  todo = ws;
+  all = refl;
+  queue = w.queue_same;
+  tables = w.tables;
+  place = omega
+      (arith, w.place);
+}
 
 -- the bytes of an item behind its fields are those of its entry
 entry_size : (h : Head) (bytes : List ℕ) → item_length (item_of h bytes) - 29 ≡ length (entry_in (item_of h bytes))
@@ -45,19 +54,22 @@ place_same : (b : Bookie) (done : List Item) (h : Head) (bytes : List ℕ) (at s
 place_same b done h bytes at size place is = λ i. record { at = place i + 29; size = (ap (λ n. n - 29) is ∙ entry_size h bytes) i }
 
 -- the piece of the next reply becomes durable, where it has one
-piece_moves : (b : Bookie) (pool : Held) (done : List Item) (more : List Waiting) (o : Option Piece) (w : Option Item) (at : ℕ) (old new : Entries) (before now : Ledgers)
+piece_moves : (b : Bookie) (pool : Held) (done : List Item) (more : List Waiting) (o : Option Piece) (w : Option Item) (at : ℕ) (old new : Entries)
+    (before now : Ledgers)
     → ArePieces pool o w → KeepsPiece old new before now o at → at ≡ gate_of b.batches + 13 + items_length done
     → Moving b done (option_to_list w ++ items_of more) old before → Moving b (done ++ option_to_list w) (items_of more) new now
 piece_moves b pool done more None None at old new before now are keeps place m =
     subst (λ (ds : List Item). Moving b ds (items_of more) new now) (sym (append-nil done))
-    (subst (λ (es : Entries). Moving b done (items_of more) es now) (sym keeps.0) (subst (λ (ls : Ledgers). Moving b done (items_of more) old ls) (sym keeps.1) m))
+    (subst (λ (es : Entries). Moving b done (items_of more) es now) (sym keeps.0) (subst (λ (ls : Ledgers). Moving b done (items_of more) old ls)
+    (sym keeps.1) m))
 piece_moves b pool done more None (Some x) at old new before now are keeps place m = absurd are
 piece_moves b pool done more (Some p) None at old new before now are keeps place m = absurd are
 piece_moves b pool done more (Some p) (Some x) at old new before now are keeps place m =
     let y : Item = item_of p.head are.bytes in
     let from : Moving b done (y ∷ items_of more) old before = subst (λ (z : Item). Moving b done (z ∷ items_of more) old before) are.head m in
     let entries : EntriesKept old new p.head (place_behind b done y) =
-    subst (λ (at_place : Place). EntriesKept old new p.head at_place) (place_same b done p.head are.bytes at p.size place (are.size ∙ ap item_length are.head)) keeps.entries in
+    subst (λ (at_place : Place). EntriesKept old new p.head at_place) (place_same b done p.head are.bytes at p.size place (are.size
+    ∙ ap item_length are.head)) keeps.entries in
     subst (λ (z : Item). Moving b (done ++ z ∷ []) (items_of more) new now) (sym are.head)
     (moves b done (items_of more) p.head are.bytes old new before now from entries keeps.ledgers)
 
@@ -104,6 +116,7 @@ kept_length (head.Copy l e n) old new place kept = kept.size
 kept_length (head.Fence l) old new place kept = ap length kept
 
 -- both tables keep their lengths
-pub keeps_lengths : (old new : Entries) (before now : Ledgers) (o : Option Piece) (at : ℕ) → KeepsPiece old new before now o at → (length new ≡ length old) × (length now ≡ length before)
+pub keeps_lengths : (old new : Entries) (before now : Ledgers) (o : Option Piece) (at : ℕ) → KeepsPiece old new before now o at
+    → (length new ≡ length old) × (length now ≡ length before)
 keeps_lengths old new before now None at keeps = (ap length keeps.0, ap length keeps.1)
 keeps_lengths old new before now (Some p) at keeps = (kept_length p.head old new (entry_place at p.size) keeps.entries, keeps.ledgers.size)

@@ -1,5 +1,6 @@
 -- A bookie with one item more stands for the node with one item more.
-use Rattle.std.proofs.Common.{◌≡◌, ℕ, ◌+◌, Bool, true, false, not, ◌&&◌, ◌==◌, List, [], ◌∷◌, ◌++◌, length, Some, if◌then◌else◌, sym, refl, ap, subst, ◌∙◌, arith, append_assoc}
+use Rattle.std.proofs.Common.{◌≡◌, ℕ, ◌+◌, Bool, true, false, not, ◌&&◌, ◌==◌, List, [], ◌∷◌, ◌++◌, length, Some, if◌then◌else◌, sym, refl, ap, subst, ◌∙◌}
+use Rattle.std.proofs.Common.{arith, append_assoc}
 use Rattle.std.specs.List.{list_any, AllByRecursion}
 use Rattle.std.proofs.lemmas.Bool.{eqb-true}
 use Rattle.dl_msg.specs.declared.msg.Msg.{Msg}
@@ -27,25 +28,31 @@ use Rattle.dl_bookie.proofs.RoomLemmas.{entry_there, ledger_there}
 use Rattle.dl_bookie.proofs.RowLemmas.{place_none}
 use Rattle.dl_bookie.proofs.WaitLemmas.{items_push}
 
+-- one, unless the test holds
 abbrev one_unless : Bool → ℕ
 one_unless t = if t then 0 else 1
 
+-- one, where the test holds
 abbrev one_if : Bool → ℕ
 one_if t = if t then 1 else 0
 
+-- both are the same
 one_more : (t : Bool) → one_unless t ≡ one_if (not t)
 one_more true = refl
 one_more false = refl
 
 -- ---- entries
 
+-- the marks of entries with one item more
 noted_at : (b : rules.Bookie) (k : BookieFacts) → TablesStand b k → (new : Entries) (l e : ℕ) (adding : Bool) (x : Item)
     → ((m f : ℕ) → is_entry m f x ≡ (l == m && e == f)) → ((m f : ℕ) → is_entry m f x ≡ true → is_add m f x ≡ adding)
-    → EntryNoted k.entries new l e adding → (m f : ℕ) → marks_at new m f ≡ entry_known (rules.durable b) (rules.queued b ++ x ∷ []) [] (place_of b.batches m f) m f
+    → EntryNoted k.entries new l e adding → (m f : ℕ) → marks_at new m f ≡ entry_known (rules.durable b) (rules.queued b ++ x ∷ []) []
+    (place_of b.batches m f) m f
 noted_at b k t new l e adding x same adds noted m f = noted.each m f ∙ go (l == m && e == f) refl
   where
     go : (s : Bool) → (l == m && e == f) ≡ s
-        → (if s then Some (entry_noted (marks_at k.entries l e) adding) else marks_at k.entries m f) ≡ entry_known (rules.durable b) (rules.queued b ++ x ∷ []) [] (place_of b.batches m f) m f
+        → (if s then Some (entry_noted (marks_at k.entries l e) adding) else marks_at k.entries m f)
+        ≡ entry_known (rules.durable b) (rules.queued b ++ x ∷ []) [] (place_of b.batches m f) m f
     go true w =
         let ledger : l ≡ m = eqb-true l m (first_of (l == m) (e == f) w) in
         let entry : e ≡ f = eqb-true e f (second_of (l == m) (e == f) w) in
@@ -55,6 +62,7 @@ noted_at b k t new l e adding x same adds noted m f = noted.each m f ∙ go (l =
         ∙ sym (known_push (rules.durable b) (rules.queued b) (place_of b.batches m f) m f x is (place_none b m f))
     go false w = t.entries m f ∙ sym (known_skip (rules.durable b) (rules.queued b) (place_of b.batches m f) m f x (same m f ∙ w))
 
+-- how many entries there are with it
 noted_count : (b : rules.Bookie) (k : BookieFacts) → TablesStand b k → (new : Entries) (l e : ℕ) (adding : Bool) (x : Item)
     → is_new_entry x (rules.all_items b) ≡ not (list_any (is_entry l e) (rules.all_items b))
     → EntryNoted k.entries new l e adding → length new ≡ entries_count (rules.all_items b ++ x ∷ [])
@@ -64,6 +72,7 @@ noted_count b k t new l e adding x same noted =
     ∙ ap (λ n. entries_count (rules.all_items b) + n) (one_more (list_any (is_entry l e) (rules.all_items b)) ∙ ap one_if (sym same))
     ∙ sym (entries_push (rules.all_items b) x)
 
+-- the same for each kind of item
 entries_at : (b : rules.Bookie) (k : BookieFacts) → TablesStand b k → (new : Entries) (h : Head) (bytes : List ℕ) → EntriesNoted k.entries new h
     → (m f : ℕ) → marks_at new m f ≡ entry_known (rules.durable b) (rules.queued b ++ item_of h bytes ∷ []) [] (place_of b.batches m f) m f
 entries_at b k t new (head.Add l e n) bytes noted m f = noted_at b k t new l e true (AddItem l e n bytes) (λ a c. refl) (λ a c is. is) noted m f
@@ -71,6 +80,7 @@ entries_at b k t new (head.Copy l e n) bytes noted m f = noted_at b k t new l e 
 entries_at b k t new (head.Fence l) bytes noted m f =
     ap (λ es. marks_at es m f) noted ∙ t.entries m f ∙ sym (known_skip (rules.durable b) (rules.queued b) (place_of b.batches m f) m f (FenceItem l) refl)
 
+-- and how many entries there are
 entries_counted : (b : rules.Bookie) (k : BookieFacts) → TablesStand b k → (new : Entries) (h : Head) (bytes : List ℕ) → EntriesNoted k.entries new h
     → length new ≡ entries_count (rules.all_items b ++ item_of h bytes ∷ [])
 entries_counted b k t new (head.Add l e n) bytes noted = noted_count b k t new l e true (AddItem l e n bytes) refl noted
@@ -80,22 +90,26 @@ entries_counted b k t new (head.Fence l) bytes noted =
 
 -- ---- ledgers
 
+-- an item is of the ledger of its head
 item_ledger : (h : Head) (bytes : List ℕ) → ledger_of (item_of h bytes) ≡ ledger_in h
 item_ledger (head.Add l e n) bytes = refl
 item_ledger (head.Copy l e n) bytes = refl
 item_ledger (head.Fence l) bytes = refl
 
+-- an item of the ledger is a fence where its head is
 item_fences : (h : Head) (bytes : List ℕ) (m : ℕ) → is_of m (item_of h bytes) ≡ true → is_fence m (item_of h bytes) ≡ is_fence_head h
 item_fences (head.Add l e n) bytes m is = refl
 item_fences (head.Copy l e n) bytes m is = refl
 item_fences (head.Fence l) bytes m is = is
 
+-- the marks of ledgers with one item more
 ledgers_at : (b : rules.Bookie) (k : BookieFacts) → TablesStand b k → (new : Ledgers) (h : Head) (bytes : List ℕ) → LedgersNoted k.ledgers new h
     → (m : ℕ) → ledger_at new m ≡ ledger_known (rules.durable b) (rules.queued b ++ item_of h bytes ∷ []) [] m
 ledgers_at b k t new h bytes noted m = noted.each m ∙ go (ledger_in h == m) refl
   where
     go : (s : Bool) → (ledger_in h == m) ≡ s
-        → (if s then Some (ledger_noted (ledger_at k.ledgers (ledger_in h)) (is_fence_head h)) else ledger_at k.ledgers m) ≡ ledger_known (rules.durable b) (rules.queued b ++ item_of h bytes ∷ []) [] m
+        → (if s then Some (ledger_noted (ledger_at k.ledgers (ledger_in h)) (is_fence_head h)) else ledger_at k.ledgers m)
+        ≡ ledger_known (rules.durable b) (rules.queued b ++ item_of h bytes ∷ []) [] m
     go true w =
         let is : is_of m (item_of h bytes) ≡ true = ap (λ l. l == m) (item_ledger h bytes) ∙ w in
         (λ i. Some (ledger_noted (ledger_at k.ledgers (eqb-true (ledger_in h) m w i)) (is_fence_head h)))
@@ -103,30 +117,40 @@ ledgers_at b k t new h bytes noted m = noted.each m ∙ go (ledger_in h == m) re
         ∙ sym (ledger_push (rules.durable b) (rules.queued b) m (item_of h bytes) is)
     go false w = t.ledgers m ∙ sym (ledger_skip (rules.durable b) (rules.queued b) m (item_of h bytes) (ap (λ l. l == m) (item_ledger h bytes) ∙ w))
 
+-- and how many ledgers there are
 ledgers_counted : (b : rules.Bookie) (k : BookieFacts) → TablesStand b k → (new : Ledgers) (h : Head) (bytes : List ℕ) → LedgersNoted k.ledgers new h
     → length new ≡ ledgers_count (rules.all_items b ++ item_of h bytes ∷ [])
 ledgers_counted b k t new h bytes noted =
     noted.count
     ∙ (λ i. t.ledgers_kept i + one_unless (ledger_there b k t (ledger_in h) i))
     ∙ ap (λ n. ledgers_count (rules.all_items b) + n)
-    (one_more (list_any (is_of (ledger_in h)) (rules.all_items b)) ∙ ap (λ l. one_if (not (list_any (is_of l) (rules.all_items b)))) (sym (item_ledger h bytes)))
+    (one_more (list_any (is_of (ledger_in h)) (rules.all_items b)) ∙ ap (λ l. one_if (not (list_any (is_of l) (rules.all_items b)))) (sym
+    (item_ledger h bytes)))
     ∙ sym (ledgers_push (rules.all_items b) (item_of h bytes))
 
 -- ---- the whole
 
+-- the node with one item more
 pub stored_stands : (b : rules.Bookie) (k now : BookieFacts) (client session : ℕ) (reply : Msg) (h : Head) (bytes : List ℕ)
     → HasEntry (item_of h bytes) → Stored k now client session reply h bytes → StandsFor b k
     → StandsFor (rules.waits b (record { client = client; session = session; reply = reply; item = Some (item_of h bytes) })) now
 stored_stands b k now client session reply h bytes whole stored s =
     let x = item_of h bytes in
     let w : rules.Waiting = record { client = client; session = session; reply = reply; item = Some x } in
-    let q : Queued = record { client = client; session = session; reply = reply; piece = Some (record { head = h; size = item_length x; span = stored.span }) } in
+    let q : Queued = record {
+      client = client;
+      session = session;
+      reply = reply;
+      piece = Some
+          (record { head = h; size = item_length x; span = stored.span });
+    } in
     let queued : rules.queued (rules.waits b w) ≡ rules.queued b ++ x ∷ [] = items_push b.queue w in
     let all : rules.all_items (rules.waits b w) ≡ rules.all_items b ++ x ∷ [] =
     ap (λ (xs : List Item). rules.durable b ++ xs) queued ∙ sym (append_assoc (rules.durable b) (rules.queued b) (x ∷ [])) in
     let piece : IsPiece now.pool (record { head = h; size = item_length x; span = stored.span }) x =
     record { bytes = bytes; head = refl; here = stored.pool.here; size = refl } in
-    let kept = zip_map (IsQueued k.pool) (IsQueued now.pool) (queued_kept k.pool now.pool stored.span (item_bytes x) stored.pool (item_some x)) k.queue b.queue s.queue in
+    let kept = zip_map (IsQueued k.pool) (IsQueued now.pool) (queued_kept k.pool now.pool stored.span (item_bytes x) stored.pool
+    (item_some x)) k.queue b.queue s.queue in
     record {
       tables = record {
         entries = λ m f. entries_at b k s.tables now.entries h bytes stored.noted.entries m f

@@ -23,7 +23,8 @@ looks_refl file v = record {
 }
 
 -- what a journal stood for it stands for after a call that reads its file
-pub settled_looks : (a b : View) (j : JournalState) (bytes : List ℕ) (batches : List Batch) → Looks a b j.file → Settled a j bytes batches → Settled b j bytes batches
+pub settled_looks : (a b : View) (j : JournalState) (bytes : List ℕ) (batches : List Batch) → Looks a b j.file → Settled a j bytes batches
+    → Settled b j bytes batches
 settled_looks a b j bytes batches w s = record {
   on_disk = record {
     shown = w.same_shown ∙ s.on_disk.shown;

@@ -16,23 +16,27 @@ use Rattle.dl_bookie.proofs.QueueLemmas.{zip_push}
 
 -- the queued items with one reply more
 pub items_push : (queue : List rules.Waiting) (w : rules.Waiting) → rules.items_of (queue ++ w ∷ []) ≡ rules.items_of queue ++ option_to_list w.item
-items_push queue w = flat_map-append (λ (x : rules.Waiting). option_to_list x.item) queue (w ∷ []) ∙ ap (λ (xs : List Item). rules.items_of queue ++ xs) (append-nil (option_to_list w.item))
+items_push queue w = flat_map-append (λ (x : rules.Waiting). option_to_list x.item) queue (w ∷ [])
+    ∙ ap (λ (xs : List Item). rules.items_of queue ++ xs) (append-nil (option_to_list w.item))
 
 -- a reply without an item
 pub items_same : (queue : List rules.Waiting) (w : rules.Waiting) → w.item ≡ None → rules.items_of (queue ++ w ∷ []) ≡ rules.items_of queue
 items_same queue w none = items_push queue w ∙ ap (λ (o : Option Item). rules.items_of queue ++ option_to_list o) none ∙ append-nil (rules.items_of queue)
 
 -- the tables stand, where the items are the same
-pub tables_same : (b c : rules.Bookie) (k l : BookieFacts) → c.batches ≡ b.batches → rules.queued c ≡ rules.queued b → l.entries ≡ k.entries → l.ledgers ≡ k.ledgers
+pub tables_same : (b c : rules.Bookie) (k l : BookieFacts) → c.batches ≡ b.batches → rules.queued c ≡ rules.queued b → l.entries ≡ k.entries
+    → l.ledgers ≡ k.ledgers
     → TablesStand b k → TablesStand c l
 tables_same b c k l batches queued entries ledgers t =
     record {
-      entries = λ m e. ap (λ es. marks_at es m e) entries ∙ t.entries m e ∙ sym (λ i. entry_known (flat_map (λ x. x) (batches i)) (queued i) [] (place_of (batches i) m e) m e);
+      entries = λ m e. ap (λ es. marks_at es m e) entries ∙ t.entries m e ∙ sym (λ i. entry_known (flat_map (λ x. x) (batches i)) (queued i) [] (place_of
+          (batches i) m e) m e);
       entries_kept = ap length entries ∙ t.entries_kept ∙ sym (λ i. entries_count (flat_map (λ x. x) (batches i) ++ queued i));
       ledgers = λ m. ap (λ ls. ledger_at ls m) ledgers ∙ t.ledgers m ∙ sym (λ i. ledger_known (flat_map (λ x. x) (batches i)) (queued i) [] m);
       ledgers_kept = ap length ledgers ∙ t.ledgers_kept ∙ sym (λ i. ledgers_count (flat_map (λ x. x) (batches i) ++ queued i));
     }
 
+-- the node with one reply more
 pub waits_stands : (b : rules.Bookie) (k l : BookieFacts) (client session : ℕ) (reply : Msg)
     → l ≡ record k { queue = k.queue ++ (record { client = client; session = session; reply = reply; piece = None }) ∷ [] }
     → StandsFor b k → StandsFor (rules.waits b (record { client = client; session = session; reply = reply; item = None })) l

@@ -1,5 +1,6 @@
 -- The piece of the reply at a place of the queue.
-use Rattle.std.proofs.Common.{◌≡◌, ℕ, zero, suc, ◌<◌, true, List, [], ◌∷◌, length, drop, option_to_list, Option, Some, None, slice_index_or, sym, subst, ◌∙◌, arith}
+use Rattle.std.proofs.Common.{◌≡◌, ℕ, zero, suc, ◌<◌, true, List, [], ◌∷◌, length, drop, option_to_list, Option, Some, None, slice_index_or, sym, subst, ◌∙◌}
+use Rattle.std.proofs.Common.{arith}
 use Rattle.std.specs.List.{AllZip, concat}
 use Rattle.dl_journal.proofs.Staging.{some_inj}
 use Rattle.dl_pool.specs.Pools.{Held, bytes_at}
@@ -27,7 +28,8 @@ pieces_at pool (p ∷ qs) (w ∷ ws) zero q within is z = subst (λ (x : Queued)
 pieces_at pool (p ∷ qs) (w ∷ ws) (suc place) q within is z = pieces_at pool qs ws place q (omega (arith, within)) is z.1
 
 -- its parts join to the item's bytes
-pub joins : (pool : Held) (p : Piece) (o : Option Item) (parts : List (List ℕ)) → ArePieces pool (Some p) o → Some (concat parts) ≡ bytes_at pool p.span → JoinTo o (Some parts)
+pub joins : (pool : Held) (p : Piece) (o : Option Item) (parts : List (List ℕ)) → ArePieces pool (Some p) o → Some (concat parts) ≡ bytes_at pool p.span
+    → JoinTo o (Some parts)
 joins pool p None parts are joined = absurd are
 joins pool p (Some x) parts are joined = some_inj (concat parts) (item_bytes x) (joined ∙ are.here)
 

@@ -38,7 +38,8 @@ pub record Commits (old new : View) (b : Bookie) (k n : BookieFacts) (replies : 
   -- the writing calls are those of one commit, or some first ones
   pub calls : MakesCalls old new k.journal.file (calls_for k.journal (queued b)) result
   -- where a fuse stops it, the file shows the new batch exactly where its gate was written
-  pub spends : 0 < length (queued b) → (f : Fuse) (shown : List ℕ) → old.fuse k.journal.file ≡ Some (Some f) → old.shown k.journal.file ≡ Some shown → OnFile old b k
+  pub spends : 0 < length (queued b) → (f : Fuse) (shown : List ℕ) → old.fuse k.journal.file ≡ Some (Some f) → old.shown k.journal.file ≡ Some shown
+      → OnFile old b k
       → Spends old new k.journal.file (calls_for k.journal (queued b))
       (λ outcome left. Shows new k.journal.file (batches_of (stopped b (is_gate_open outcome left)))) f result
 

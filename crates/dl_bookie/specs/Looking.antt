@@ -33,7 +33,8 @@ pub record ReadsBack (old new : View) (file : ℕ) (p : Place) (result : Result 
   pub found : (shown : List ℕ) → old.shown file ≡ Some shown → IfOk result (λ bytes. bytes ≡ bytes_in shown p)
   pub whole : IfOk result IsEntryBytes
   -- not where an entry is shown there
-  pub damaged : (at : ℕ) → IsErrOf result (Damaged at) → (shown : List ℕ) → old.shown file ≡ Some shown → length (bytes_in shown p) ≡ p.size → IsEntryBytes (bytes_in shown p) → ⊥
+  pub damaged : (at : ℕ) → IsErrOf result (Damaged at) → (shown : List ℕ) → old.shown file ≡ Some shown → length (bytes_in shown p) ≡ p.size
+      → IsEntryBytes (bytes_in shown p) → ⊥
   pub place : (at : ℕ) → IsErrOf result (Damaged at) → at ≡ p.at
   pub counts : CountsLook (old.faults file) (new.faults file) result
   pub works : IsErrOf result Failed → ⊥

@@ -31,7 +31,17 @@ pub record Stored (old new : BookieFacts) (client session : ℕ) (reply : Msg) (
   pub span : ℕ
   pub pool : Adds old.pool span (item_bytes (item_of h bytes)) new.pool
   pub noted : Noted old.entries new.entries old.ledgers new.ledgers h
-  pub queue : new.queue ≡ old.queue ++ (record { client = client; session = session; reply = reply; piece = Some (record { head = h; size = item_length (item_of h bytes); span = span }) }) ∷ []
+  pub queue : new.queue ≡ old.queue ++ (record {
+    client = client;
+    session = session;
+    reply = reply;
+    piece = Some (record {
+      head = h;
+      size = item_length
+          (item_of h bytes);
+      span = span;
+    });
+  }) ∷ []
   pub bytes_then : new.bytes ≡ old.bytes + item_length (item_of h bytes)
   pub journal : new.journal ≡ old.journal
   pub failed : new.failed ≡ old.failed

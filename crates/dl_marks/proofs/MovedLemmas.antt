@@ -1,5 +1,6 @@
 -- All items of a queue became durable.
-use Rattle.std.proofs.Common.{◌≡◌, ℕ, ◌+◌, Bool, true, false, not, ◌&&◌, List, [], ◌∷◌, ◌++◌, sum_by, Option, Some, None, if◌then◌else◌, sym, refl, ap, ◌∙◌, arith, append-nil}
+use Rattle.std.proofs.Common.{◌≡◌, ℕ, ◌+◌, Bool, true, false, not, ◌&&◌, List, [], ◌∷◌, ◌++◌, sum_by, Option, Some, None, if◌then◌else◌, sym, refl, ap, ◌∙◌}
+use Rattle.std.proofs.Common.{arith, append-nil}
 use Rattle.std.specs.List.{list_any}
 use Rattle.std.proofs.lemmas.List.Sums.{sum_by-cons}
 use Rattle.dl_rules_nodes.specs.Items.{Item, items_length, is_add, is_entry, is_fence, is_of, greatest}
@@ -13,7 +14,8 @@ use Rattle.dl_marks.proofs.MoveLemmas.{or_assoc, or_nothing}
 
 -- the places of batches with one more
 from_push : (gate : ℕ) (batches : List (List Item)) (items : List Item) (l e : ℕ)
-    → place_from gate (batches ++ items ∷ []) l e ≡ or_place (place_from gate batches l e) (place_in (gate + sum_by (λ batch. 13 + items_length batch) batches + 13) items l e)
+    → place_from gate (batches ++ items ∷ []) l e ≡ or_place (place_from gate batches l e) (place_in (gate + sum_by
+    (λ batch. 13 + items_length batch) batches + 13) items l e)
 from_push gate [] items l e = or_nothing (place_in (gate + 13) items l e) ∙ ap (λ n. place_in n items l e) (omega arith)
 from_push gate (batch ∷ more) items l e =
     ap (or_place (place_in (gate + 13) batch l e)) (from_push (gate + (13 + items_length batch)) more items l e)
@@ -33,6 +35,7 @@ and_false : (a : Bool) → (not a && false) ≡ false
 and_false true = refl
 and_false false = refl
 
+-- the marks of an entry do not depend on what settled
 known_settled : (before settled : List Item) (place : Option Place) (l e : ℕ) → entry_known before [] settled place l e ≡ entry_known before [] [] place l e
 known_settled before settled place l e = λ i.
     if list_any (is_entry l e) (before ++ []) then Some (record {
@@ -43,6 +46,7 @@ known_settled before settled place l e = λ i.
     })
     else None
 
+-- nor do those of a ledger
 ledger_settled : (before settled : List Item) (l : ℕ) → ledger_known before [] settled l ≡ ledger_known before [] [] l
 ledger_settled before settled l = λ i.
     if list_any (is_of l) (before ++ []) then Some (record {
@@ -67,7 +71,8 @@ ledgers_moved b entries ledgers m l = m.ledger l ∙ ledger_settled (durable b +
 
 -- before the first one, none is done
 pub none_moved : (b : Bookie) (entries : Entries) (ledgers : Ledgers)
-    → ((l e : ℕ) → marks_at entries l e ≡ entry_known (durable b) (queued b) [] (place_of b.batches l e) l e) → ((l : ℕ) → ledger_at ledgers l ≡ ledger_known (durable b) (queued b) [] l)
+    → ((l e : ℕ) → marks_at entries l e ≡ entry_known (durable b) (queued b) [] (place_of b.batches l e) l e) → ((l : ℕ)
+    → ledger_at ledgers l ≡ ledger_known (durable b) (queued b) [] l)
     → Moving b [] (queued b) entries ledgers
 none_moved b entries ledgers es ls = record {
   entry = λ l e. es l e ∙ (λ i. entry_known (sym (append-nil (durable b)) i) (queued b) [] (sym (or_nothing (place_of b.batches l e)) i) l e);

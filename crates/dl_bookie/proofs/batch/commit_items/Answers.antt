@@ -28,5 +28,6 @@ commit-requires-clause-room g c =
 pub returns-clause-committed : goal.returns-clause-committed
 returns-clause-committed g c =
     subst (λ body. Committed (g.D.Depot.view c.args.depot.now) (g.D.Depot.view c.commit.new.depot) c.args.journal.now c.commit.new.self body c.commit.result)
-    (frame_body c.as_mut_slice.result.now (bytes_of c.args.pool.now (pieces_of c.args.queue.now.items)) (c.as_mut_slice.ensures.value ∙ c.make_frame.ensures.items))
+    (frame_body c.as_mut_slice.result.now (bytes_of c.args.pool.now (pieces_of c.args.queue.now.items)) (c.as_mut_slice.ensures.value
+    ∙ c.make_frame.ensures.items))
     c.commit.ensures.committed

@@ -24,7 +24,8 @@ loop-index-preserved c =
     let was = ap (is_held pool) (sym from) ∙ c.loop-index.invariant.held in
     record {
       held = held_right pool ps rest was;
-      joined = step_items pool c.loop-index.frame.items c.put_queued.new.frame.items c.args.frame.now.items (bytes_of pool (pieces_of items)) ps rest c.put_queued.ensures.items
+      joined = step_items pool c.loop-index.frame.items c.put_queued.new.frame.items c.args.frame.now.items (bytes_of pool
+          (pieces_of items)) ps rest c.put_queued.ensures.items
           (ap (λ qs. c.loop-index.frame.items ++ bytes_of pool qs) (sym from) ∙ c.loop-index.invariant.joined);
       len = omega (
         arith,

@@ -21,12 +21,15 @@ invariant_of-self g c =
     let new = g.D.Depot.view c.write_batch.new.depot in
     let idles : c.self.inside.bytes ≡ 0 → c.write_batch.new.journal ≡ c.self.inside.journal = λ none. (c.in-Ok.ensures.idle none).1.0 in
     record {
-      fits = fits_empty c.self.inside.pool c.release.new.pool c.self.inside.queue.items c.release.new.queue.items c.self.inside.bytes was.fits c.release.ensures.pages c.release.ensures.queue;
+      fits = fits_empty c.self.inside.pool c.release.new.pool c.self.inside.queue.items c.release.new.queue.items c.self.inside.bytes was.fits
+          c.release.ensures.pages c.release.ensures.queue;
       batch = omega arith;
       below = gate_below old new c.self.inside.journal c.write_batch.new.journal body c.self.inside.bytes (Ok tt) c.in-Ok.ensures.committed idles
           (held_length c.self.inside.pool ps was.fits.held ∙ sym was.fits.size) was.batch was.below;
-      same_file = file_same old new c.self.inside.journal c.write_batch.new.journal body c.self.inside.bytes (Ok tt) c.in-Ok.ensures.committed idles ∙ was.same_file;
-      works = λ failed. works_on old new c.self.inside.journal c.write_batch.new.journal body c.self.inside.bytes tt c.in-Ok.ensures.committed idles (was.works failed);
+      same_file = file_same old new c.self.inside.journal c.write_batch.new.journal body c.self.inside.bytes (Ok tt) c.in-Ok.ensures.committed idles
+          ∙ was.same_file;
+      works = λ failed. works_on old new c.self.inside.journal c.write_batch.new.journal body c.self.inside.bytes tt c.in-Ok.ensures.committed idles
+          (was.works failed);
       frame_room = omega (arith, was.frame_room, c.in-Ok.ensures.room);
       queue_room = subst (λ n. 4096 ≤ n) (sym c.release.ensures.capacity) was.queue_room;
     }
@@ -63,7 +66,8 @@ returns-in-Ok-clause-commits g c b s =
     let go : (k.bytes ≡ 0) ⊎ (0 < k.bytes) → Commits old (g.D.Depot.view c.write_batch.new.depot) b k n c.release.new.replies (Ok tt) = λ either. elim either [
       | inl none ↦ subst (λ d. Commits old (g.D.Depot.view d) b k n c.release.new.replies (Ok tt)) (sym (c.in-Ok.ensures.idle none).0)
           (commit_idles old b k n c.release.new.replies c.body_place-at.result tt stands c.self.invariant.fits none (c.in-Ok.ensures.idle none).1.0 answered)
-      | inr some ↦ commit_writes old (g.D.Depot.view c.write_batch.new.depot) b k n c.release.new.replies c.body_place-at.result tt stands c.self.invariant.fits some (c.in-Ok.ensures.committed some) answered
+      | inr some ↦ commit_writes old (g.D.Depot.view c.write_batch.new.depot) b k n c.release.new.replies c.body_place-at.result tt stands
+          c.self.invariant.fits some (c.in-Ok.ensures.committed some) answered
     ] in
     subst (λ kept. Commits old (g.D.Depot.view c.write_batch.new.depot) b kept n c.release.new.replies (Ok tt)) c.self.view_is (go (zero_or_some k.bytes))
 
@@ -85,7 +89,8 @@ returns-in-Err-clause-commits g c b s =
     let stands : StandsFor b k = subst (StandsFor b) (sym c.self.view_is) s in
     let go : (k.bytes ≡ 0) ⊎ (0 < k.bytes) → Commits old new b k n replies (Err c.in-Err.fault) = λ either. elim either [
       | inl none ↦ absurd (true≢false (sym (c.in-Err.ensures.idle none).1.1))
-      | inr some ↦ commit_fails old new b k n c.write_batch.new.journal replies c.in-Err.fault stands c.self.invariant.fits some (c.in-Err.ensures.committed some)
+      | inr some ↦ commit_fails old new b k n c.write_batch.new.journal replies c.in-Err.fault stands c.self.invariant.fits some
+          (c.in-Err.ensures.committed some)
           (ap (λ (x : BookieFacts). x.journal) c.drop_queue-in-Err.ensures.rest)
     ] in
     subst (λ kept. Commits old new b kept n replies (Err c.in-Err.fault)) c.self.view_is (go (zero_or_some k.bytes))

@@ -6,7 +6,8 @@ pub invariant_of-self : goal.invariant_of-self
 invariant_of-self c =
     let was = c.self.invariant in
     record {
-      fits = fits_empty c.self.inside.pool c.release.new.pool c.self.inside.queue.items c.release.new.queue.items c.self.inside.bytes was.fits c.release.ensures.pages c.release.ensures.queue;
+      fits = fits_empty c.self.inside.pool c.release.new.pool c.self.inside.queue.items c.release.new.queue.items c.self.inside.bytes was.fits
+          c.release.ensures.pages c.release.ensures.queue;
       batch = omega arith;
       below = was.below;
       same_file = was.same_file;

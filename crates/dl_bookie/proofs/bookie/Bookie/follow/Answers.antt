@@ -27,14 +27,17 @@ pub returns-in-Some-lack-clause-follows : goal.returns-in-Some-lack-clause-follo
 returns-in-Some-lack-clause-follows c b s =
     let k = c.args.self.now in
     subst (λ row. Follows b k c.args.client c.args.session row c.args.head c.args.bytes.now (outcome.Answer c.full_of-in-Some-lack.result)) (sym c.in-Stores.is)
-    (subst (λ m. Follows b k c.args.client c.args.session (Stores c.in-Stores.reply) c.args.head c.args.bytes.now (outcome.Answer m)) (sym c.full_of-in-Some-lack.ensures)
-    (follows_full b k c.args.client c.args.session (Stores c.in-Stores.reply) c.args.head c.args.bytes.now c.in-Some-lack.what (tt {0}) s c.lack-in-Stores.ensures.fits
+    (subst (λ m. Follows b k c.args.client c.args.session (Stores c.in-Stores.reply) c.args.head c.args.bytes.now (outcome.Answer m))
+    (sym c.full_of-in-Some-lack.ensures)
+    (follows_full b k c.args.client c.args.session (Stores c.in-Stores.reply) c.args.head c.args.bytes.now c.in-Some-lack.what
+    (tt {0}) s c.lack-in-Stores.ensures.fits
     (ap (lack_of k c.args.head) (sym c.size.ensures.size) ∙ sym c.lack-in-Stores.ensures.what ∙ c.in-Some-lack.is)))
 
 pub returns-in-None-lack-clause-follows : goal.returns-in-None-lack-clause-follows
 returns-in-None-lack-clause-follows c b s =
     let k = c.args.self.now in
     subst (λ row. Follows b c.store.new.self c.args.client c.args.session row c.args.head c.args.bytes.now outcome.Queued) (sym c.in-Stores.is)
-    (follows_queued b k c.store.new.self c.args.client c.args.session (Stores c.in-Stores.reply) c.args.head c.args.bytes.now (tt {0}) s c.lack-in-Stores.ensures.fits
+    (follows_queued b k c.store.new.self c.args.client c.args.session (Stores c.in-Stores.reply) c.args.head c.args.bytes.now
+    (tt {0}) s c.lack-in-Stores.ensures.fits
     (ap (lack_of k c.args.head) (sym c.size.ensures.size) ∙ sym c.lack-in-Stores.ensures.what ∙ c.in-None-lack.is)
     (stored_stands b k c.store.new.self c.args.client c.args.session c.in-Stores.reply c.args.head c.args.bytes.now c.requires.whole c.store.ensures s))

@@ -32,7 +32,8 @@ returns-in-Ok-clause-looked g c b s =
     let some : place_by (marks_at k.entries l e) ≡ Some c.in-Some.place =
     sym (c.place_by.ensures ∙ ap place_by c.get.ensures ∙ ap (λ (kept : BookieFacts). place_by (marks_at kept.entries l e)) c.self.view_is) ∙ c.in-Some.is in
     answers_entry old new b k c.args.tag l e c.in-Some.place c.in-Ok.bytes s some
-    (subst (λ f. ReadsBack old new f c.in-Some.place (Ok c.in-Ok.bytes)) (sym c.self.invariant.same_file ∙ ap (λ (kept : BookieFacts). kept.journal.file) c.self.view_is) c.in-Ok.ensures)
+    (subst (λ f. ReadsBack old new f c.in-Some.place (Ok c.in-Ok.bytes)) (sym c.self.invariant.same_file
+    ∙ ap (λ (kept : BookieFacts). kept.journal.file) c.self.view_is) c.in-Ok.ensures)
 
 pub returns-in-Err-clause-looked : goal.returns-in-Err-clause-looked
 returns-in-Err-clause-looked g c b s =
@@ -44,7 +45,8 @@ returns-in-Err-clause-looked g c b s =
     let some : place_by (marks_at k.entries l e) ≡ Some c.in-Some.place =
     sym (c.place_by.ensures ∙ ap place_by c.get.ensures ∙ ap (λ (kept : BookieFacts). place_by (marks_at kept.entries l e)) c.self.view_is) ∙ c.in-Some.is in
     answers_none old new b k c.args.tag l e c.in-Some.place c.in-Err.fault s some
-    (subst (λ f. ReadsBack old new f c.in-Some.place (Err c.in-Err.fault)) (sym c.self.invariant.same_file ∙ ap (λ (kept : BookieFacts). kept.journal.file) c.self.view_is) c.in-Err.ensures)
+    (subst (λ f. ReadsBack old new f c.in-Some.place (Err c.in-Err.fault)) (sym c.self.invariant.same_file
+    ∙ ap (λ (kept : BookieFacts). kept.journal.file) c.self.view_is) c.in-Err.ensures)
 
 pub returns-in-Ok-clause-stands : goal.returns-in-Ok-clause-stands
 returns-in-Ok-clause-stands g c was =

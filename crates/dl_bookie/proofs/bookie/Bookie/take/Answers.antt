@@ -9,7 +9,8 @@ use Rattle.dl_bookie.specs.Standing.{StandsFor}
 use Rattle.dl_bookie.proofs.TakeLemmas.{Does, add_taken, copy_taken, fence_taken}
 use Rattle.dl_bookie.proofs.bookie.Bookie.take.Goals as goal
 
-add_does : (c : goal.After-follow) (b : Node) → StandsFor b c.args.self.now → Does b c.follow.new.self c.args.client c.args.session (taken b c.args.msg.now) c.follow.result
+add_does : (c : goal.After-follow) (b : Node) → StandsFor b c.args.self.now
+    → Does b c.follow.new.self c.args.client c.args.session (taken b c.args.msg.now) c.follow.result
 add_does c b s =
     let l = c.in-Add.ledger in
     let e = c.in-Add.entry in
@@ -20,23 +21,28 @@ add_does c b s =
     (subst (λ bytes. Follows b c.follow.new.self c.args.client c.args.session c.add_row-row.result (head.Add l e c.in-Add.count) bytes c.follow.result)
     c.deref.ensures (c.follow.ensures.follows b s)))
 
-copy_does : (c : goal.After-follow-in-Copy) (b : Node) → StandsFor b c.args.self.now → Does b c.follow-in-Copy.new.self c.args.client c.args.session (taken b c.args.msg.now) c.follow-in-Copy.result
+copy_does : (c : goal.After-follow-in-Copy) (b : Node) → StandsFor b c.args.self.now
+    → Does b c.follow-in-Copy.new.self c.args.client c.args.session (taken b c.args.msg.now) c.follow-in-Copy.result
 copy_does c b s =
     let l = c.in-Copy.ledger in
     let e = c.in-Copy.entry in
     subst (λ m. Does b c.follow-in-Copy.new.self c.args.client c.args.session (taken b m) c.follow-in-Copy.result) (sym c.in-Copy.is)
-    (copy_taken b c.args.self.now c.follow-in-Copy.new.self c.args.client c.args.session c.in-Copy.tag l e c.in-Copy.count c.in-Copy.bytes c.copy_row-row.result c.follow-in-Copy.result s
+    (copy_taken b c.args.self.now c.follow-in-Copy.new.self c.args.client c.args.session c.in-Copy.tag l e c.in-Copy.count c.in-Copy.bytes
+    c.copy_row-row.result c.follow-in-Copy.result s
     (c.copy_row-row.ensures ∙ (λ i. marked_copy_row (c.get-in-Copy.ensures i) c.in-Copy.tag l e)
     ∙ (λ i. marked_copy_row (marks_at (c.self-in-Copy.view_is i).entries l e) c.in-Copy.tag l e))
-    (subst (λ bytes. Follows b c.follow-in-Copy.new.self c.args.client c.args.session c.copy_row-row.result (head.Copy l e c.in-Copy.count) bytes c.follow-in-Copy.result)
+    (subst (λ bytes. Follows b c.follow-in-Copy.new.self c.args.client c.args.session c.copy_row-row.result
+    (head.Copy l e c.in-Copy.count) bytes c.follow-in-Copy.result)
     c.deref-in-Copy.ensures (c.follow-in-Copy.ensures.follows b s)))
 
-fence_does : (c : goal.After-follow-in-AskLac) (b : Node) → StandsFor b c.args.self.now → Does b c.follow-in-AskLac.new.self c.args.client c.args.session (taken b c.args.msg.now) c.follow-in-AskLac.result
+fence_does : (c : goal.After-follow-in-AskLac) (b : Node) → StandsFor b c.args.self.now
+    → Does b c.follow-in-AskLac.new.self c.args.client c.args.session (taken b c.args.msg.now) c.follow-in-AskLac.result
 fence_does c b s =
     let l = c.in-AskLac.ledger in
     subst (λ m. Does b c.follow-in-AskLac.new.self c.args.client c.args.session (taken b m) c.follow-in-AskLac.result)
     (sym (c.in-AskLac.is ∙ ap (AskLac c.in-AskLac.tag l) c.if-not-fence.false))
-    (fence_taken b c.args.self.now c.follow-in-AskLac.new.self c.args.client c.args.session c.in-AskLac.tag l _ c.fence_row-row.result c.follow-in-AskLac.result s
+    (fence_taken b c.args.self.now c.follow-in-AskLac.new.self c.args.client c.args.session c.in-AskLac.tag l _ c.fence_row-row.result
+    c.follow-in-AskLac.result s
     (c.fence_row-row.ensures ∙ (λ i. marked_fence_row (c.get-in-AskLac.ensures i) c.in-AskLac.tag l)
     ∙ (λ i. marked_fence_row (ledger_at (c.self-in-AskLac.view_is i).ledgers l) c.in-AskLac.tag l))
     (c.follow-in-AskLac.ensures.follows b s))

@@ -14,7 +14,9 @@ pub returns-in-None-clause-each : goal.returns-in-None-clause-each
 returns-in-None-clause-each c l e =
     (on_ok c.insert-stored.result (c.insert-stored.ensures.succeeds
     (subst (λ m. 0 < spare m) (sym c.get_mut.follows.holds-at-none)
-    (room_for (length c.self.inside.map.entries) (spare c.self.inside.map) 65536 (marks_at c.self.inside.map.entries c.args.key.ledger c.args.key.entry) c.self.invariant
-    (subst (λ es. (length es < 65536) ⊎ IsSome (marks_at es c.args.key.ledger c.args.key.entry)) (sym c.self.view_is) c.requires) (search rules)))) c.insert-stored.ensures.updates).0 (record { ledger = l; entry = e })
+    (room_for (length c.self.inside.map.entries) (spare c.self.inside.map) 65536
+    (marks_at c.self.inside.map.entries c.args.key.ledger c.args.key.entry) c.self.invariant
+    (subst (λ es. (length es < 65536) ⊎ IsSome (marks_at es c.args.key.ledger c.args.key.entry)) (sym c.self.view_is) c.requires)
+    (search rules)))) c.insert-stored.ensures.updates).0 (record { ledger = l; entry = e })
     ∙ ap (λ m. cond (c.args.key.ledger == l && c.args.key.entry == e) (Some c.args.marks) (marks_at m.entries l e)) c.get_mut.follows.holds-at-none
     ∙ ap (λ es. cond (c.args.key.ledger == l && c.args.key.entry == e) (Some c.args.marks) (marks_at es l e)) c.self.view_is

@@ -15,6 +15,7 @@ returns-in-None-clause-each c l =
     (on_ok c.insert-stored.result (c.insert-stored.ensures.succeeds
     (subst (λ m. 0 < spare m) (sym c.get_mut.follows.holds-at-none)
     (room_for (length c.self.inside.map.entries) (spare c.self.inside.map) 4096 (ledger_at c.self.inside.map.entries c.args.ledger) c.self.invariant
-    (subst (λ es. (length es < 4096) ⊎ IsSome (ledger_at es c.args.ledger)) (sym c.self.view_is) c.requires) (search rules)))) c.insert-stored.ensures.updates).0 l
+    (subst (λ es. (length es < 4096) ⊎ IsSome (ledger_at es c.args.ledger)) (sym c.self.view_is) c.requires)
+    (search rules)))) c.insert-stored.ensures.updates).0 l
     ∙ ap (λ m. cond (c.args.ledger == l) (Some c.args.marks) (ledger_at m.entries l)) c.get_mut.follows.holds-at-none
     ∙ ap (λ es. cond (c.args.ledger == l) (Some c.args.marks) (ledger_at es l)) c.self.view_is
