@@ -15,7 +15,7 @@ use Rattle.dl_journal.specs.declared.batch.Batch.{Batch}
 use Rattle.dl_journal.specs.declared.commit_fault.CommitFault.{CommitFault}
 use Rattle.dl_journal.specs.Batches.{IsJournal, BeforeOrAfter}
 use Rattle.dl_journal.specs.Calls.{MakesCalls, Spends}
-use Rattle.dl_journal.specs.Settled.{Settled}
+use Rattle.dl_journal.specs.Settled.{IsSettled}
 use Rattle.dl_journal.specs.Limits.{journal_limit, last_number, gate_size, around_body}
 use Rattle.dl_journal.specs.Commits.{Committed, Shows, batch_of, state_after, spare_of, commit_calls, is_gate_open}
 use Rattle.dl_journal.proofs.Staging.{some_inj}
@@ -24,7 +24,8 @@ use Rattle.dl_msg.specs.declared.msg.Msg.TheVariants.{LacIs}
 use Rattle.dl_pool.specs.Pools.{Held}
 use Rattle.dl_rules_nodes.specs.Items.{Item, AddItem, CopyItem, FenceItem, item_bytes, item_length, items_length, body_of, greatest}
 use Rattle.dl_rules_nodes.specs.Counts.{entries_count, ledgers_count}
-use Rattle.dl_rules_nodes.specs.Bookies.{Bookie, Waiting, queued, all_items, items_of, gate_of, with_batch, committed, stopped, told_after, replies_of}
+use Rattle.dl_rules_nodes.specs.Bookies.{Bookie, Waiting, queued_items, all_items, items_of, gate_of, with_batch, after_commit, after_stop}
+use Rattle.dl_rules_nodes.specs.Bookies.{told_after, replies_of}
 use Rattle.dl_rules_nodes.proofs.BookieLaws.{durable_items_only_grow, commits_move_items}
 use Rattle.dl_rules_nodes.proofs.ItemLaws.{lengths_are_of_bytes}
 use Rattle.dl_marks.specs.Tables.{Ledgers, ledger_at}
@@ -91,27 +92,27 @@ none_wait [] none = refl
 none_wait (x ∷ xs) none = absurd (omega (arith, none, item_counts x, sum_by-cons item_length x xs))
 
 -- the batches of the node's journal after the commit
-pub batches_after : (b : Bookie) (k : BookieFacts) → StandsFor b k → 0 < items_length (queued b)
-    → batches_of (committed b) ≡ batches_of b ++ batch_of k.journal (body_of (queued b)) ∷ []
-unfolding committed
+pub batches_after : (b : Bookie) (k : BookieFacts) → StandsFor b k → 0 < items_length (queued_items b)
+    → batches_of (after_commit b) ≡ batches_of b ++ batch_of k.journal (body_of (queued_items b)) ∷ []
+unfolding after_commit
 batches_after b k s some =
-    ap (numbered b.first) (with_some b.batches (queued b) some)
-    ∙ numbered_push b.first b.batches (queued b)
-    ∙ ap (λ n. batches_of b ++ (record { number = n; body = body_of (queued b) }) ∷ []) (sym s.next)
+    ap (numbered b.first) (with_some b.batches (queued_items b) some)
+    ∙ numbered_push b.first b.batches (queued_items b)
+    ∙ ap (λ n. batches_of b ++ (record { number = n; body = body_of (queued_items b) }) ∷ []) (sym s.next)
 
 -- the same where no item waits
-pub batches_same : (b : Bookie) → queued b ≡ [] → batches_of (committed b) ≡ batches_of b
-unfolding committed
+pub batches_same : (b : Bookie) → queued_items b ≡ [] → batches_of (after_commit b) ≡ batches_of b
+unfolding after_commit
 batches_same b none = ap (λ (items : List Item). numbered b.first (with_batch b.batches items)) none
 
 -- at each moment of a commit each image has the batches from before, with the new one or without
 each_moment : (old new : View) (b : Bookie) (k : BookieFacts) (j : JournalState) (result : Result (Unit {0}) CommitFault)
-    → StandsFor b k → OnFile old b k → 0 < items_length (queued b) → Committed old new k.journal j (body_of (queued b)) result
+    → StandsFor b k → OnFile old b k → 0 < items_length (queued_items b) → Committed old new k.journal j (body_of (queued_items b)) result
     → (shown : List ℕ) → old.shown k.journal.file ≡ Some shown → LeavesOnly k.journal.file old new (HoldsEither b)
 each_moment old new b k j result s file some c shown told t image from to left =
     go (c.any_moment shown (batches_of b) (file shown told) t image from to left)
   where
-    go : BeforeOrAfter (batches_of b) (batch_of k.journal (body_of (queued b))) image → HoldsEither b image
+    go : BeforeOrAfter (batches_of b) (batch_of k.journal (body_of (queued_items b))) image → HoldsEither b image
     go (inl before) = inl before
     go (inr now) = inr (subst (IsJournal image) (sym (batches_after b k s some)) now)
 
@@ -122,19 +123,19 @@ told_before (Some was) new shown same now = (was, refl)
 
 -- and after an Ok the file holds the new one
 file_after : (old new : View) (b : Bookie) (k n : BookieFacts) (v : Unit {0})
-    → StandsFor b k → OnFile old b k → 0 < items_length (queued b) → Committed old new k.journal n.journal (body_of (queued b)) (Ok v)
-    → OnFile new (committed b) n
+    → StandsFor b k → OnFile old b k → 0 < items_length (queued_items b) → Committed old new k.journal n.journal (body_of (queued_items b)) (Ok v)
+    → OnFile new (after_commit b) n
 file_after old new b k n v s file some c shown told =
     let same_file : new.shown k.journal.file ≡ Some shown = subst (λ f. new.shown f ≡ Some shown) c.file told in
     let before = told_before (old.shown k.journal.file) (new.shown k.journal.file) shown (c.keeps.told k.journal.file) same_file in
     let done = c.ok before.0 (batches_of b) (file before.0 before.1) in
-    let all : Settled new n.journal done.0 (batches_of (committed b)) = subst (Settled new n.journal done.0) (sym (batches_after b k s some)) done.1 in
-    subst (λ (x : List ℕ). Settled new n.journal x (batches_of (committed b))) (some_inj done.0 shown (sym all.on_disk.shown ∙ told)) all
+    let all : IsSettled new n.journal done.0 (batches_of (after_commit b)) = subst (IsSettled new n.journal done.0) (sym (batches_after b k s some)) done.1 in
+    subst (λ (x : List ℕ). IsSettled new n.journal x (batches_of (after_commit b))) (some_inj done.0 shown (sym all.on_disk.shown ∙ told)) all
 
 -- where it answered
 on_file_after : (old new : View) (b : Bookie) (k n : BookieFacts) (result : Result (Unit {0}) CommitFault)
-    → StandsFor b k → 0 < items_length (queued b) → Committed old new k.journal n.journal (body_of (queued b)) result → OnFile old b k
-    → OnOk result (OnFile new (committed b) n)
+    → StandsFor b k → 0 < items_length (queued_items b) → Committed old new k.journal n.journal (body_of (queued_items b)) result → OnFile old b k
+    → OnOk result (OnFile new (after_commit b) n)
 on_file_after old new b k n (Ok v) s some c file = file_after old new b k n v s file some c
 on_file_after old new b k n (Err e) s some c file = tt
 
@@ -156,10 +157,10 @@ spends_so old new file work P Q f (Err e) so spends = record {
 }
 
 -- the file of a commit that was stopped shows the batches of the node that was stopped
-stopped_shows : (new : View) (b : Bookie) (k : BookieFacts) → StandsFor b k → 0 < items_length (queued b) → (open_gate : Bool)
-    → Shows new k.journal.file (cond open_gate (batches_of b ++ batch_of k.journal (body_of (queued b)) ∷ []) (batches_of b))
-    → Shows new k.journal.file (batches_of (stopped b open_gate))
-unfolding committed
+stopped_shows : (new : View) (b : Bookie) (k : BookieFacts) → StandsFor b k → 0 < items_length (queued_items b) → (open_gate : Bool)
+    → Shows new k.journal.file (cond open_gate (batches_of b ++ batch_of k.journal (body_of (queued_items b)) ∷ []) (batches_of b))
+    → Shows new k.journal.file (batches_of (after_stop b open_gate))
+unfolding after_commit
 stopped_shows new b k s some true shows = subst (Shows new k.journal.file) (sym (batches_after b k s some)) shows
 stopped_shows new b k s some false shows = shows
 
@@ -167,21 +168,21 @@ stopped_shows new b k s some false shows = shows
 
 -- What is in memory after a commit that answered.
 pub record GoesOn (b : Bookie) (k n : BookieFacts) : Type 0 where
-  pub moved : Moving b (queued b) [] n.entries n.ledgers
+  pub moved : Moving b (queued_items b) [] n.entries n.ledgers
   pub entries : length n.entries ≡ length k.entries
   pub ledgers : length n.ledgers ≡ length k.ledgers
   pub queue : n.queue ≡ []
-  pub gate : n.journal.gate ≡ gate_of (with_batch b.batches (queued b))
-  pub next : n.journal.next ≡ b.first + length (with_batch b.batches (queued b))
+  pub gate : n.journal.gate ≡ gate_of (with_batch b.batches (queued_items b))
+  pub next : n.journal.next ≡ b.first + length (with_batch b.batches (queued_items b))
   pub failed : n.failed ≡ k.failed
 
 -- it stands for the node after the commit
-pub stands_committed : (b : Bookie) (k n : BookieFacts) → StandsFor b k → GoesOn b k n → StandsFor (committed b) n
-unfolding committed
+pub stands_committed : (b : Bookie) (k n : BookieFacts) → StandsFor b k → GoesOn b k n → StandsFor (after_commit b) n
+unfolding after_commit
 stands_committed b k n s g = record {
   tables = record {
     entries = λ l e. entries_moved b n.entries n.ledgers g.moved l e
-        ∙ sym (ap (λ (xs : List Item). entry_known xs [] [] (place_of (with_batch b.batches (queued b)) l e) l e) (durable_items_only_grow b).commit);
+        ∙ sym (ap (λ (xs : List Item). entry_known xs [] [] (place_of (with_batch b.batches (queued_items b)) l e) l e) (durable_items_only_grow b).commit);
     entries_kept = g.entries ∙ s.tables.entries_kept ∙ sym (ap entries_count (commits_move_items b));
     ledgers = λ l. ledgers_moved b n.entries n.ledgers g.moved l ∙ sym (ap (λ (xs : List Item). ledger_known xs [] [] l) (durable_items_only_grow b).commit);
     ledgers_kept = g.ledgers ∙ s.tables.ledgers_kept ∙ sym (ap ledgers_count (commits_move_items b));
@@ -198,31 +199,31 @@ gate_push : (batches : List (List Item)) (items : List Item) → gate_of (batche
 gate_push batches items = omega (arith, sum_by-append (λ (x : List Item). 13 + items_length x) batches (items ∷ []))
 
 -- gate and number after a batch
-pub gate_after : (b : Bookie) (k : BookieFacts) (j : JournalState) → StandsFor b k → 0 < items_length (queued b)
-    → j ≡ state_after k.journal (body_of (queued b))
-    → j.gate ≡ gate_of (with_batch b.batches (queued b))
+pub gate_after : (b : Bookie) (k : BookieFacts) (j : JournalState) → StandsFor b k → 0 < items_length (queued_items b)
+    → j ≡ state_after k.journal (body_of (queued_items b))
+    → j.gate ≡ gate_of (with_batch b.batches (queued_items b))
 gate_after b k j s some is =
     ap (λ (x : JournalState). x.gate) is
-    ∙ omega (arith, s.gate, lengths_are_of_bytes.items (queued b), gate_push b.batches (queued b))
-    ∙ sym (ap gate_of (with_some b.batches (queued b) some))
+    ∙ omega (arith, s.gate, lengths_are_of_bytes.items (queued_items b), gate_push b.batches (queued_items b))
+    ∙ sym (ap gate_of (with_some b.batches (queued_items b) some))
 
 -- the number of the next batch after one
-pub next_after : (b : Bookie) (k : BookieFacts) (j : JournalState) → StandsFor b k → 0 < items_length (queued b)
-    → j ≡ state_after k.journal (body_of (queued b))
-    → j.next ≡ b.first + length (with_batch b.batches (queued b))
+pub next_after : (b : Bookie) (k : BookieFacts) (j : JournalState) → StandsFor b k → 0 < items_length (queued_items b)
+    → j ≡ state_after k.journal (body_of (queued_items b))
+    → j.next ≡ b.first + length (with_batch b.batches (queued_items b))
 next_after b k j s some is =
     ap (λ (x : JournalState). x.next) is
-    ∙ omega (arith, s.next, length-append b.batches (queued b ∷ []))
-    ∙ sym (ap (λ (bs : List (List Item)). b.first + length bs) (with_some b.batches (queued b) some))
+    ∙ omega (arith, s.next, length-append b.batches (queued_items b ∷ []))
+    ∙ sym (ap (λ (bs : List (List Item)). b.first + length bs) (with_some b.batches (queued_items b) some))
 
 -- the same where no item waits
-pub gate_same : (b : Bookie) (k : BookieFacts) (j : JournalState) → StandsFor b k → queued b ≡ [] → j ≡ k.journal
-    → j.gate ≡ gate_of (with_batch b.batches (queued b))
+pub gate_same : (b : Bookie) (k : BookieFacts) (j : JournalState) → StandsFor b k → queued_items b ≡ [] → j ≡ k.journal
+    → j.gate ≡ gate_of (with_batch b.batches (queued_items b))
 gate_same b k j s none is = ap (λ (x : JournalState). x.gate) is ∙ s.gate ∙ sym (ap (λ (items : List Item). gate_of (with_batch b.batches items)) none)
 
 -- the number of the next batch where no item waits
-pub next_same : (b : Bookie) (k : BookieFacts) (j : JournalState) → StandsFor b k → queued b ≡ [] → j ≡ k.journal
-    → j.next ≡ b.first + length (with_batch b.batches (queued b))
+pub next_same : (b : Bookie) (k : BookieFacts) (j : JournalState) → StandsFor b k → queued_items b ≡ [] → j ≡ k.journal
+    → j.next ≡ b.first + length (with_batch b.batches (queued_items b))
 next_same b k j s none is =
     ap (λ (x : JournalState). x.next) is ∙ s.next ∙ sym (ap (λ (items : List Item). b.first + length (with_batch b.batches items)) none)
 
@@ -249,37 +250,37 @@ replies_same ledgers items counts pool (q ∷ qs) (w ∷ ws) z = λ i.
     }) ∷ replies_same ledgers items counts pool qs ws z.1 i
 
 -- by the tables after the commit
-pub replies_after : (b : Bookie) (k n : BookieFacts) → StandsFor b k → StandsFor (committed b) n
+pub replies_after : (b : Bookie) (k n : BookieFacts) → StandsFor b k → StandsFor (after_commit b) n
     → map ruled_reply (map (reply_for n.ledgers) k.queue) ≡ replies_of b
 replies_after b k n s after =
-    replies_same n.ledgers (all_items b) (λ l. greatest_is (committed b) n after.tables l
+    replies_same n.ledgers (all_items b) (λ l. greatest_is (after_commit b) n after.tables l
     ∙ ap (greatest l) (durable_items_only_grow b).commit) k.pool k.queue b.queue s.queue
 
 -- ---- the call
 
 -- a batch was written, or not
 pub commits_written : (old new : View) (b : Bookie) (k n : BookieFacts) (replies : List Reply) (result : Result (Unit {0}) CommitFault) → StandsFor b k
-    → 0 < items_length (queued b) → Committed old new k.journal n.journal (body_of (queued b)) result
-    → OnOk result (StandsFor (committed b) n) → OnOk result (map ruled_reply replies ≡ replies_of b) → Commits old new b k n replies result
+    → 0 < items_length (queued_items b) → Committed old new k.journal n.journal (body_of (queued_items b)) result
+    → OnOk result (StandsFor (after_commit b) n) → OnOk result (map ruled_reply replies ≡ replies_of b) → Commits old new b k n replies result
 commits_written old new b k n replies result s some c stands answers = record {
   any_moment = λ shown told file. each_moment old new b k n.journal result s file some c shown told;
   stands = stands;
   on_file = on_file_after old new b k n result s some c;
   answers = answers;
-  calls = subst (λ (work : List DeviceCall). MakesCalls old new k.journal.file work result) (sym (calls_same k.journal (queued b) some)) c.calls;
+  calls = subst (λ (work : List DeviceCall). MakesCalls old new k.journal.file work result) (sym (calls_same k.journal (queued_items b) some)) c.calls;
   spends = λ waits f shown fuse told file.
-      subst (λ (work : List DeviceCall). Spends old new k.journal.file work (λ outcome left. Shows new k.journal.file (batches_of (stopped b
+      subst (λ (work : List DeviceCall). Spends old new k.journal.file work (λ outcome left. Shows new k.journal.file (batches_of (after_stop b
       (is_gate_open outcome left)))) f result)
-      (sym (calls_same k.journal (queued b) some))
-      (spends_so old new k.journal.file (commit_calls k.journal (body_of (queued b)))
-      (λ outcome left. Shows new k.journal.file (cond (is_gate_open outcome left) (batches_of b ++ batch_of k.journal (body_of (queued b)) ∷ [])
+      (sym (calls_same k.journal (queued_items b) some))
+      (spends_so old new k.journal.file (commit_calls k.journal (body_of (queued_items b)))
+      (λ outcome left. Shows new k.journal.file (cond (is_gate_open outcome left) (batches_of b ++ batch_of k.journal (body_of (queued_items b)) ∷ [])
       (batches_of b)))
-      (λ outcome left. Shows new k.journal.file (batches_of (stopped b (is_gate_open outcome left)))) f result
+      (λ outcome left. Shows new k.journal.file (batches_of (after_stop b (is_gate_open outcome left)))) f result
       (λ outcome left. stopped_shows new b k s some (is_gate_open outcome left)) (c.spends f shown (batches_of b) fuse (file shown told)));
 }
 
 -- an image of a file without work
-image_still : (v : View) (b : Bookie) (k : BookieFacts) (shown : List ℕ) → Settled v k.journal shown (batches_of b)
+image_still : (v : View) (b : Bookie) (k : BookieFacts) (shown : List ℕ) → IsSettled v k.journal shown (batches_of b)
     → LeavesOnly k.journal.file v v (HoldsEither b)
 image_still v b k shown s t c from to image =
     let now : v.image k.journal.file v.moment c = subst (λ (m : ℕ). v.image k.journal.file m c) (moment_same v t from to) image in
@@ -294,13 +295,14 @@ image_still v b k shown s t c from to image =
     inl (subst (λ (bytes : List ℕ). IsJournal bytes (batches_of b)) (sym (s.on_disk.only c now)) holds)
 
 -- no item waits, and no call is made
-pub commits_idle : (v : View) (b : Bookie) (k n : BookieFacts) (replies : List Reply) (u : Unit {0}) → StandsFor b k → queued b ≡ [] → n.journal ≡ k.journal
-    → StandsFor (committed b) n → map ruled_reply replies ≡ replies_of b → Commits v v b k n replies (Ok u)
+pub commits_idle : (v : View) (b : Bookie) (k n : BookieFacts) (replies : List Reply) (u : Unit {0})
+    → StandsFor b k → queued_items b ≡ [] → n.journal ≡ k.journal
+    → StandsFor (after_commit b) n → map ruled_reply replies ≡ replies_of b → Commits v v b k n replies (Ok u)
 commits_idle v b k n replies u s none same stands answers = record {
   any_moment = λ shown told file. image_still v b k shown (file shown told);
   stands = stands;
-  on_file = λ file shown told. subst (λ (j : JournalState). Settled v j shown (batches_of (committed b))) (sym same)
-      (subst (Settled v k.journal shown) (sym (batches_same b none)) (file shown (subst (λ (j : JournalState). v.shown j.file ≡ Some shown) same told)));
+  on_file = λ file shown told. subst (λ (j : JournalState). IsSettled v j shown (batches_of (after_commit b))) (sym same)
+      (subst (IsSettled v k.journal shown) (sym (batches_same b none)) (file shown (subst (λ (j : JournalState). v.shown j.file ≡ Some shown) same told)));
   answers = answers;
   calls = subst (λ (items : List Item). MakesCalls {E = CommitFault} v v k.journal.file (calls_for k.journal items) (Ok u)) (sym none) (record {
     told = λ calls is. is ∙ ap Some (sym (append-nil calls));
@@ -313,7 +315,7 @@ commits_idle v b k n replies u s none same stands answers = record {
 -- ---- the whole
 
 -- the bytes that are kept are those of the queued items
-pub bytes_wait : (b : Bookie) (k : BookieFacts) → StandsFor b k → Fits k.pool k.queue k.bytes → items_length (queued b) ≡ k.bytes
+pub bytes_wait : (b : Bookie) (k : BookieFacts) → StandsFor b k → Fits k.pool k.queue k.bytes → items_length (queued_items b) ≡ k.bytes
 bytes_wait b k s fits = sym (fits.size ∙ sizes_same k.pool k.queue b.queue s.queue)
 
 -- What an Ok of the call leaves, apart from the journal.
@@ -326,7 +328,7 @@ pub record Answered (k n : BookieFacts) (replies : List Reply) (at : ℕ) : Type
 
 -- the tables then know the queue as durable
 queue_moved : (b : Bookie) (k n : BookieFacts) (replies : List Reply) (at : ℕ) → StandsFor b k → Answered k n replies at
-    → Moving b (queued b) [] n.entries n.ledgers
+    → Moving b (queued_items b) [] n.entries n.ledgers
 queue_moved b k n replies at s a = a.settles.moved b k.pool b.queue (record {
   queue_same = s.queue;
   tables = none_moved b k.entries k.ledgers s.tables.entries s.tables.ledgers;
@@ -339,10 +341,10 @@ pub commit_writes : (old new : View) (b : Bookie) (k n : BookieFacts) (replies :
     → 0 < k.bytes → Committed old new k.journal n.journal (bytes_of k.pool (pieces_of k.queue)) (Ok u) → Answered k n replies at
     → Commits old new b k n replies (Ok u)
 commit_writes old new b k n replies at u s fits some c a =
-    let waits : 0 < items_length (queued b) = omega (arith, some, bytes_wait b k s fits) in
-    let written : Committed old new k.journal n.journal (body_of (queued b)) (Ok u) =
+    let waits : 0 < items_length (queued_items b) = omega (arith, some, bytes_wait b k s fits) in
+    let written : Committed old new k.journal n.journal (body_of (queued_items b)) (Ok u) =
     subst (λ (body : List ℕ). Committed old new k.journal n.journal body (Ok u)) (items_written k.pool k.queue b.queue s.queue) c in
-    let stands : StandsFor (committed b) n = stands_committed b k n s (record {
+    let stands : StandsFor (after_commit b) n = stands_committed b k n s (record {
       moved = queue_moved b k n replies at s a;
       entries = a.settles.entries;
       ledgers = a.settles.ledgers;
@@ -357,8 +359,8 @@ commit_writes old new b k n replies at u s fits some c a =
 pub commit_idles : (v : View) (b : Bookie) (k n : BookieFacts) (replies : List Reply) (at : ℕ) (u : Unit {0}) → StandsFor b k → Fits k.pool k.queue k.bytes
     → k.bytes ≡ 0 → n.journal ≡ k.journal → Answered k n replies at → Commits v v b k n replies (Ok u)
 commit_idles v b k n replies at u s fits empty same a =
-    let none : queued b ≡ [] = none_wait (queued b) (bytes_wait b k s fits ∙ empty) in
-    let stands : StandsFor (committed b) n = stands_committed b k n s (record {
+    let none : queued_items b ≡ [] = none_wait (queued_items b) (bytes_wait b k s fits ∙ empty) in
+    let stands : StandsFor (after_commit b) n = stands_committed b k n s (record {
       moved = queue_moved b k n replies at s a;
       entries = a.settles.entries;
       ledgers = a.settles.ledgers;
@@ -374,9 +376,9 @@ pub commit_fails : (old new : View) (b : Bookie) (k n : BookieFacts) (j : Journa
     → Fits k.pool k.queue k.bytes
     → 0 < k.bytes → Committed old new k.journal j (bytes_of k.pool (pieces_of k.queue)) (Err fault) → n.journal ≡ j → Commits old new b k n replies (Err fault)
 commit_fails old new b k n j replies fault s fits some c same =
-    let waits : 0 < items_length (queued b) = omega (arith, some, bytes_wait b k s fits) in
-    let written : Committed old new k.journal n.journal (body_of (queued b)) (Err fault) =
-    subst (λ (x : JournalState). Committed old new k.journal x (body_of (queued b)) (Err fault)) (sym same)
+    let waits : 0 < items_length (queued_items b) = omega (arith, some, bytes_wait b k s fits) in
+    let written : Committed old new k.journal n.journal (body_of (queued_items b)) (Err fault) =
+    subst (λ (x : JournalState). Committed old new k.journal x (body_of (queued_items b)) (Err fault)) (sym same)
     (subst (λ (body : List ℕ). Committed old new k.journal j body (Err fault)) (items_written k.pool k.queue b.queue s.queue) c) in
     commits_written old new b k n replies (Err fault) s waits written tt tt
 

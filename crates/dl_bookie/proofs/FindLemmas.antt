@@ -4,12 +4,12 @@ use Rattle.std.proofs.Common.{true≢false, sym, refl, ap, subst, ◌∙◌}
 use Rattle.std.specs.List.{list_any, AllByRecursion}
 use Rattle.dl_depot.specs.View.{View}
 use Rattle.dl_depot.specs.Device.{Looks}
-use Rattle.dl_journal.specs.Settled.{Settled}
+use Rattle.dl_journal.specs.Settled.{IsSettled}
 use Rattle.dl_msg.specs.declared.msg.Msg.{Msg}
 use Rattle.dl_msg.specs.declared.msg.Msg.TheVariants.{AskEntry, AskLac, EntryIs, NoEntry, LacIs}
 use Rattle.dl_record.specs.Grammar.{IsEntryBytes}
 use Rattle.dl_rules_nodes.specs.Items.{Item, AddItem, CopyItem, FenceItem, entry_in, is_entry, greatest, is_add}
-use Rattle.dl_rules_nodes.specs.Bookies.{Bookie, durable, queued, all_items, fenced, looked, entry_answer}
+use Rattle.dl_rules_nodes.specs.Bookies.{Bookie, durable, queued_items, all_items, has_fence, look_answer, entry_answer}
 use Rattle.dl_marks.specs.declared.marks.Place.{Place}
 use Rattle.dl_marks.specs.Places.{place_of}
 use Rattle.dl_marks.specs.Tables.{marks_at, ledger_at}
@@ -76,11 +76,11 @@ place_is b k t l e = ap place_by (t.entries l e) ∙ go (list_any (is_entry l e)
           added = list_any (is_add l e) (durable b);
           place = place_of b.batches l e;
           adding = list_any (is_add l e)
-              (queued b);
-          coming = list_any (is_entry l e) (queued b);
+              (queued_items b);
+          coming = list_any (is_entry l e) (queued_items b);
         }) else None) ≡ place_of b.batches l e
     go true w = refl
-    go false w = sym (place_none b l e (no_all (is_entry l e) (durable b) (queued b) w).0)
+    go false w = sym (place_none b l e (no_all (is_entry l e) (durable b) (queued_items b) w).0)
 
 -- no place, and no entry
 pub nothing_there : (b : Bookie) (l e : ℕ) → place_of b.batches l e ≡ None → find (is_entry l e) (durable b) ≡ None
@@ -99,11 +99,13 @@ file_looks old new b k looks file shown told = settled_looks old new k.journal s
 -- an answer from the tables
 pub answers_now : (v : View) (b : Bookie) (k : BookieFacts) (t l e : ℕ) → StandsFor b k → place_by (marks_at k.entries l e) ≡ None
     → LooksUp v v b k (AskEntry t l e) (Ok (NoEntry t l e (is_fenced (ledger_at k.ledgers l))))
-unfolding looked
+unfolding look_answer
 answers_now v b k t l e s none =
-    let wanted : looked b (AskEntry t l e) ≡ NoEntry t l e (fenced b l) = ap (entry_answer b t l e) (nothing_there b l e (sym (place_is b k s.tables l e)
+    let wanted : look_answer b (AskEntry t l e) ≡ NoEntry t l e (has_fence b l) =
+    ap (entry_answer b t l e) (nothing_there b l e (sym (place_is b k s.tables l e)
     ∙ none)) in
-    let same : NoEntry t l e (is_fenced (ledger_at k.ledgers l)) ≡ looked b (AskEntry t l e) = ap (NoEntry t l e) (fenced_is b k s.tables l) ∙ sym wanted in
+    let same : NoEntry t l e (is_fenced (ledger_at k.ledgers l)) ≡ look_answer b (AskEntry t l e) =
+    ap (NoEntry t l e) (fenced_is b k s.tables l) ∙ sym wanted in
     record {
       answer = subst (λ (m : Msg). Rattle.dl_bookie.specs.Looking.IsLike m (NoEntry t l e (is_fenced (ledger_at k.ledgers l)))) (sym wanted) (ap
           (NoEntry t l e) (fenced_is b k s.tables l));
@@ -116,14 +118,14 @@ answers_now v b k t l e s none =
 -- the answer about a ledger
 pub answers_lac : (v : View) (b : Bookie) (k : BookieFacts) (t l : ℕ) (f : Bool) → StandsFor b k
     → LooksUp v v b k (AskLac t l f) (Ok (LacIs t l (is_fenced (ledger_at k.ledgers l)) (greatest_of (ledger_at k.ledgers l))))
-unfolding looked
+unfolding look_answer
 answers_lac v b k t l f s =
-    let same : LacIs t l (is_fenced (ledger_at k.ledgers l)) (greatest_of (ledger_at k.ledgers l)) ≡ LacIs t l (fenced b l) (greatest l (durable b)) =
+    let same : LacIs t l (is_fenced (ledger_at k.ledgers l)) (greatest_of (ledger_at k.ledgers l)) ≡ LacIs t l (has_fence b l) (greatest l (durable b)) =
     λ i. LacIs t l (fenced_is b k s.tables l i) (greatest_is b k s.tables l i) in
     record { answer = same; whole = tt; told = λ shown told file. same; undamaged = λ shown told file at is. cc; on_file = λ file. file }
 
 -- what the file shows at the place is the item's entry
-entry_shown : (v : View) (b : Bookie) (k : BookieFacts) (l e : ℕ) (p : Place) (x : Item) (shown : List ℕ) → Settled v k.journal shown (batches_of b)
+entry_shown : (v : View) (b : Bookie) (k : BookieFacts) (l e : ℕ) (p : Place) (x : Item) (shown : List ℕ) → IsSettled v k.journal shown (batches_of b)
     → place_of b.batches l e ≡ Some p → find (is_entry l e) (durable b) ≡ Some x → (bytes_in shown p ≡ entry_in x) × (p.size ≡ length (entry_in x))
 entry_shown v b k l e p x shown s place found =
     subst (λ (o : Option Item). Shows shown (Some p) o) found
@@ -134,11 +136,11 @@ entry_shown v b k l e p x shown s place found =
 pub answers_entry : (old new : View) (b : Bookie) (k : BookieFacts) (t l e : ℕ) (p : Place) (bytes : List ℕ) → StandsFor b k
     → place_by (marks_at k.entries l e) ≡ Some p
     → ReadsBack old new k.journal.file p (Ok bytes) → LooksUp old new b k (AskEntry t l e) (Ok (EntryIs t l e bytes))
-unfolding looked
+unfolding look_answer
 answers_entry old new b k t l e p bytes s is read =
     let place : place_of b.batches l e ≡ Some p = sym (place_is b k s.tables l e) ∙ is in
     let item = something_there b l e p place in
-    let wanted : looked b (AskEntry t l e) ≡ EntryIs t l e (entry_in item.0) = ap (entry_answer b t l e) item.1 in
+    let wanted : look_answer b (AskEntry t l e) ≡ EntryIs t l e (entry_in item.0) = ap (entry_answer b t l e) item.1 in
     record {
       answer = subst (λ (m : Msg). Rattle.dl_bookie.specs.Looking.IsLike m (EntryIs t l e bytes)) (sym wanted) (refl, (refl, refl));
       whole = read.whole;
@@ -167,7 +169,7 @@ answers_none old new b k t l e p fault s is read =
       undamaged = λ shown told file at damaged.
           let shows = entry_shown old b k l e p item.0 shown (file shown told) place item.1 in
           read.damaged at (ap (λ (f : LookFault). Err f) (fault_same fault (Damaged at) damaged)) shown told (ap length shows.0 ∙ sym shows.1)
-          (subst IsEntryBytes (sym shows.0) (found_whole l e (durable b) item.0 (whole_left (durable b) (queued b) s.whole) item.1));
+          (subst IsEntryBytes (sym shows.0) (found_whole l e (durable b) item.0 (whole_left (durable b) (queued_items b) s.whole) item.1));
     }
 
 -- what is kept after a fault

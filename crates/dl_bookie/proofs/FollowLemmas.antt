@@ -49,7 +49,7 @@ follows_answer b k client session reply h bytes s = record { answer = refl; stan
 -- a row for which something lacks
 pub follows_full : (b : rules.Bookie) (k : BookieFacts) (client session : ℕ) (row : Row) (h : Head) (bytes : List ℕ) (what : Resource) → IsQueue row
     → StandsFor b k → Fits k.pool k.queue k.bytes → lack_of k h (length_for (item_in row (item_of h bytes))) ≡ Some what
-    → Follows b k client session row h bytes (outcome.Answer (Full what (ledger_in h) (rules.named (entry_named h))))
+    → Follows b k client session row h bytes (outcome.Answer (Full what (ledger_in h) (rules.named_entry (entry_named h))))
 follows_full b k client session row h bytes what is s fits lack =
     let same = ruled_as b row h bytes is (Some what) (sym (lack_same b k s fits h (item_in row (item_of h bytes))) ∙ lack) in
     record {

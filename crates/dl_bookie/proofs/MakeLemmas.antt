@@ -2,10 +2,10 @@
 use Rattle.std.proofs.Common.{◌≡◌, ℕ, List, [], Ok, false, sym, refl, ap, subst, ◌∙◌}
 use Rattle.dl_depot.specs.View.{View}
 use Rattle.dl_journal.specs.State.{JournalState}
-use Rattle.dl_journal.specs.Settled.{Settled}
+use Rattle.dl_journal.specs.Settled.{IsSettled}
 use Rattle.dl_journal.specs.Commits.{Made, new_journal, start}
 use Rattle.dl_journal.proofs.Staging.{some_inj}
-use Rattle.dl_pool.specs.Pools.{nothing_held}
+use Rattle.dl_pool.specs.Pools.{empty_pool}
 use Rattle.dl_rules_nodes.specs.Limits.{pool_pages}
 use Rattle.dl_rules_nodes.specs.Counts.{count_new}
 use Rattle.dl_rules_nodes.specs.Bookies.{empty_bookie}
@@ -16,7 +16,7 @@ use Rattle.dl_bookie.proofs.CommitLemmas.{told_before}
 
 -- what is kept of a node with this journal, and without an item
 abbrev pub fresh : JournalState → BookieFacts
-fresh j = record { journal = j; pool = nothing_held pool_pages; entries = []; ledgers = []; queue = []; bytes = 0; failed = false }
+fresh j = record { journal = j; pool = empty_pool pool_pages; entries = []; ledgers = []; queue = []; bytes = 0; failed = false }
 
 -- it stands for it
 fresh_stands : (file : ℕ) → StandsFor empty_bookie (fresh (new_journal file))
@@ -34,8 +34,8 @@ fresh_stands file = record {
 fresh_on_file : (old new : View) (file : ℕ) (j : JournalState) → Made old new file (Ok j) → OnFile new empty_bookie (fresh (new_journal file))
 fresh_on_file old new file j made shown told =
     let before = told_before (old.shown file) (new.shown file) shown (made.keeps.told file) told in
-    let settled : Settled new (new_journal file) start [] = made.settled before.0 before.1 in
-    subst (λ (bytes : List ℕ). Settled new (new_journal file) bytes []) (some_inj start shown (sym settled.on_disk.shown ∙ told)) settled
+    let settled : IsSettled new (new_journal file) start [] = made.settled before.0 before.1 in
+    subst (λ (bytes : List ℕ). IsSettled new (new_journal file) bytes []) (some_inj start shown (sym settled.on_disk.shown ∙ told)) settled
 
 -- the whole
 pub makes_node : (old new : View) (file : ℕ) (j : JournalState) (k : BookieFacts) → Made old new file (Ok j) → k ≡ fresh j → Makes old new file (Ok k)

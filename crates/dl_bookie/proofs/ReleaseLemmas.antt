@@ -4,7 +4,7 @@ use Rattle.std.proofs.Common.{ap, ◌∙◌, arith}
 use Rattle.std.specs.List.{list_any}
 use Rattle.std.proofs.lemmas.Bool.{eqb-true, eqb-false}
 use Rattle.std.proofs.lemmas.List.Sums.{sum_by-cons}
-use Rattle.dl_pool.specs.Pools.{Held, nothing_held, bytes_at, spare, pages_of, Adds}
+use Rattle.dl_pool.specs.Pools.{Held, empty_pool, bytes_at, spare, pages_of, Adds}
 use Rattle.dl_marks.proofs.BoolLemmas.{first_of, second_of, four_of, not_true}
 use Rattle.dl_marks.proofs.KnownLemmas.{or_left, or_right}
 use Rattle.dl_bookie.specs.declared.queued.Queued.{Queued}
@@ -57,7 +57,7 @@ pages_after pool less (Some p) ps frees held =
     omega (arith, adds.room, ap pages_of there.1.1, sum_by-cons (λ (r : Piece). pages_of r.size) p ps)
 
 -- queue and pool fit together at first
-pub fits_new : (pool : Held) (queue : List Queued) → pool ≡ nothing_held 2048 → queue ≡ [] → Fits pool queue 0
+pub fits_new : (pool : Held) (queue : List Queued) → pool ≡ empty_pool 2048 → queue ≡ [] → Fits pool queue 0
 unfolding is_held
 fits_new pool queue fresh none = record {
   held = ap (λ (qs : List Queued). is_held pool (pieces_of qs)) none;

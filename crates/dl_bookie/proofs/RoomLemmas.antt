@@ -11,7 +11,7 @@ use Rattle.dl_pool.specs.Pools.{spare, pages_of}
 use Rattle.dl_msg.specs.declared.resource.Resource.TheVariants.{Pool, Index, Ledgers, Queue, Journal}
 use Rattle.dl_rules_nodes.specs.Limits.{room_for_body}
 use Rattle.dl_rules_nodes.specs.Items.{Item, item_length, items_length, is_entry, is_of}
-use Rattle.dl_rules_nodes.specs.Bookies.{Bookie, durable, queued, all_items, spare_pages, pages_for, journal_spare, lacking, names_new_entry}
+use Rattle.dl_rules_nodes.specs.Bookies.{Bookie, durable, queued_items, all_items, spare_pages, pages_for, journal_spare, lacking, names_new_entry}
 use Rattle.dl_marks.specs.declared.marks.Place.{Place}
 use Rattle.dl_items.specs.declared.head.Head.{Head}
 use Rattle.dl_items.specs.declared.head.Head.TheVariants as head
@@ -59,11 +59,11 @@ ledger_some before todo l = go _ (list_any (is_of l) (before ++ todo))
 
 -- the same of what is kept
 pub entry_there : (b : Bookie) (k : BookieFacts) → TablesStand b k → (l e : ℕ) → is_some (marks_at k.entries l e) ≡ list_any (is_entry l e) (all_items b)
-entry_there b k t l e = ap is_some (t.entries l e) ∙ known_some (durable b) (queued b) (Rattle.dl_marks.specs.Places.place_of b.batches l e) l e
+entry_there b k t l e = ap is_some (t.entries l e) ∙ known_some (durable b) (queued_items b) (Rattle.dl_marks.specs.Places.place_of b.batches l e) l e
 
 -- and of a ledger
 pub ledger_there : (b : Bookie) (k : BookieFacts) → TablesStand b k → (l : ℕ) → is_some (ledger_at k.ledgers l) ≡ list_any (is_of l) (all_items b)
-ledger_there b k t l = ap is_some (t.ledgers l) ∙ ledger_some (durable b) (queued b) l
+ledger_there b k t l = ap is_some (t.ledgers l) ∙ ledger_some (durable b) (queued_items b) l
 
 -- an entry is new in the table where it is for the node
 new_entry_same : (b : Bookie) (k : BookieFacts) → TablesStand b k → (h : Head) → names_new k.entries h ≡ names_new_entry b (ledger_in h) (entry_named h)
@@ -85,11 +85,11 @@ journal_same b k s = room_same k.journal ∙ (λ i. room_for_body (s.next i) (s.
 
 -- the bytes that would wait
 pub bytes_same : (b : Bookie) (k : BookieFacts) → StandsFor b k → Fits k.pool k.queue k.bytes → (item : Option Item)
-    → k.bytes + length_for item ≡ items_length (queued b ++ option_to_list item)
+    → k.bytes + length_for item ≡ items_length (queued_items b ++ option_to_list item)
 bytes_same b k s fits None =
-    omega (arith, fits.size, sizes_same k.pool k.queue b.queue s.queue, sum_by-append item_length (queued b) [])
+    omega (arith, fits.size, sizes_same k.pool k.queue b.queue s.queue, sum_by-append item_length (queued_items b) [])
 bytes_same b k s fits (Some x) =
-    omega (arith, fits.size, sizes_same k.pool k.queue b.queue s.queue, sum_by-append item_length (queued b) (x ∷ []))
+    omega (arith, fits.size, sizes_same k.pool k.queue b.queue s.queue, sum_by-append item_length (queued_items b) (x ∷ []))
 
 -- the five tests are those of the node
 pub lack_same : (b : Bookie) (k : BookieFacts) → StandsFor b k → Fits k.pool k.queue k.bytes → (h : Head) (item : Option Item)

@@ -73,14 +73,15 @@ added_is b k t l e = ap is_added (t.entries l e) ∙ go (list_any (is_entry l e)
           added = list_any (is_add l e) (rules.durable b);
           place = place_of b.batches l e;
           adding = list_any
-              (is_add l e) (rules.queued b);
-          coming = list_any (is_entry l e) (rules.queued b);
+              (is_add l e) (rules.queued_items b);
+          coming = list_any (is_entry l e) (rules.queued_items b);
         }) else None) ≡ list_any (is_add l e) (rules.durable b)
     go true w = refl
-    go false w = sym (no_add l e (rules.durable b) (no_all (is_entry l e) (rules.durable b) (rules.queued b) w).0)
+    go false w = sym (no_add l e (rules.durable b) (no_all (is_entry l e) (rules.durable b) (rules.queued_items b) w).0)
 
 -- whether an Add waits
-pub adding_is : (b : rules.Bookie) (k : BookieFacts) → TablesStand b k → (l e : ℕ) → is_adding (marks_at k.entries l e) ≡ list_any (is_add l e) (rules.queued b)
+pub adding_is : (b : rules.Bookie) (k : BookieFacts) → TablesStand b k → (l e : ℕ)
+    → is_adding (marks_at k.entries l e) ≡ list_any (is_add l e) (rules.queued_items b)
 adding_is b k t l e = ap is_adding (t.entries l e) ∙ go (list_any (is_entry l e) (rules.all_items b)) refl
   where
     go : (s : Bool) → list_any (is_entry l e) (rules.all_items b) ≡ s
@@ -88,11 +89,11 @@ adding_is b k t l e = ap is_adding (t.entries l e) ∙ go (list_any (is_entry l 
           added = list_any (is_add l e) (rules.durable b);
           place = place_of b.batches l e;
           adding = list_any
-              (is_add l e) (rules.queued b);
-          coming = list_any (is_entry l e) (rules.queued b);
-        }) else None) ≡ list_any (is_add l e) (rules.queued b)
+              (is_add l e) (rules.queued_items b);
+          coming = list_any (is_entry l e) (rules.queued_items b);
+        }) else None) ≡ list_any (is_add l e) (rules.queued_items b)
     go true w = refl
-    go false w = sym (no_add l e (rules.queued b) (no_all (is_entry l e) (rules.durable b) (rules.queued b) w).1)
+    go false w = sym (no_add l e (rules.queued_items b) (no_all (is_entry l e) (rules.durable b) (rules.queued_items b) w).1)
 
 -- whether an item is durable
 pub there_is : (b : rules.Bookie) (k : BookieFacts) → TablesStand b k → (l e : ℕ)
@@ -104,15 +105,15 @@ there_is b k t l e = ap is_there (t.entries l e) ∙ go (list_any (is_entry l e)
           added = list_any (is_add l e) (rules.durable b);
           place = place_of b.batches l e;
           adding = list_any
-              (is_add l e) (rules.queued b);
-          coming = list_any (is_entry l e) (rules.queued b);
+              (is_add l e) (rules.queued_items b);
+          coming = list_any (is_entry l e) (rules.queued_items b);
         }) else None) ≡ list_any (is_entry l e) (rules.durable b)
     go true w = place_some b l e
-    go false w = sym (no_all (is_entry l e) (rules.durable b) (rules.queued b) w).0
+    go false w = sym (no_all (is_entry l e) (rules.durable b) (rules.queued_items b) w).0
 
 -- whether an item waits
 pub coming_is : (b : rules.Bookie) (k : BookieFacts) → TablesStand b k → (l e : ℕ)
-    → is_coming (marks_at k.entries l e) ≡ list_any (is_entry l e) (rules.queued b)
+    → is_coming (marks_at k.entries l e) ≡ list_any (is_entry l e) (rules.queued_items b)
 coming_is b k t l e = ap is_coming (t.entries l e) ∙ go (list_any (is_entry l e) (rules.all_items b)) refl
   where
     go : (s : Bool) → list_any (is_entry l e) (rules.all_items b) ≡ s
@@ -120,39 +121,40 @@ coming_is b k t l e = ap is_coming (t.entries l e) ∙ go (list_any (is_entry l 
           added = list_any (is_add l e) (rules.durable b);
           place = place_of b.batches l e;
           adding = list_any
-              (is_add l e) (rules.queued b);
-          coming = list_any (is_entry l e) (rules.queued b);
-        }) else None) ≡ list_any (is_entry l e) (rules.queued b)
+              (is_add l e) (rules.queued_items b);
+          coming = list_any (is_entry l e) (rules.queued_items b);
+        }) else None) ≡ list_any (is_entry l e) (rules.queued_items b)
     go true w = refl
-    go false w = sym (no_all (is_entry l e) (rules.durable b) (rules.queued b) w).1
+    go false w = sym (no_all (is_entry l e) (rules.durable b) (rules.queued_items b) w).1
 
 -- whether a fence is durable
-pub fenced_is : (b : rules.Bookie) (k : BookieFacts) → TablesStand b k → (l : ℕ) → is_fenced (ledger_at k.ledgers l) ≡ rules.fenced b l
+pub fenced_is : (b : rules.Bookie) (k : BookieFacts) → TablesStand b k → (l : ℕ) → is_fenced (ledger_at k.ledgers l) ≡ rules.has_fence b l
 fenced_is b k t l = ap is_fenced (t.ledgers l) ∙ go (list_any (is_of l) (rules.all_items b)) refl
   where
     go : (s : Bool) → list_any (is_of l) (rules.all_items b) ≡ s
         → is_fenced (if s then Some (record {
           fenced = list_any (is_fence l) (rules.durable b);
           fencing = list_any (is_fence l)
-              (rules.queued b);
+              (rules.queued_items b);
           greatest = greatest l (rules.durable b);
-        }) else None) ≡ rules.fenced b l
+        }) else None) ≡ rules.has_fence b l
     go true w = refl
-    go false w = sym (no_fence l (rules.durable b) (no_all (is_of l) (rules.durable b) (rules.queued b) w).0)
+    go false w = sym (no_fence l (rules.durable b) (no_all (is_of l) (rules.durable b) (rules.queued_items b) w).0)
 
 -- whether a fence waits
-pub fencing_is : (b : rules.Bookie) (k : BookieFacts) → TablesStand b k → (l : ℕ) → is_fencing (ledger_at k.ledgers l) ≡ list_any (is_fence l) (rules.queued b)
+pub fencing_is : (b : rules.Bookie) (k : BookieFacts) → TablesStand b k → (l : ℕ)
+    → is_fencing (ledger_at k.ledgers l) ≡ list_any (is_fence l) (rules.queued_items b)
 fencing_is b k t l = ap is_fencing (t.ledgers l) ∙ go (list_any (is_of l) (rules.all_items b)) refl
   where
     go : (s : Bool) → list_any (is_of l) (rules.all_items b) ≡ s
         → is_fencing (if s then Some (record {
           fenced = list_any (is_fence l) (rules.durable b);
           fencing = list_any (is_fence l)
-              (rules.queued b);
+              (rules.queued_items b);
           greatest = greatest l (rules.durable b);
-        }) else None) ≡ list_any (is_fence l) (rules.queued b)
+        }) else None) ≡ list_any (is_fence l) (rules.queued_items b)
     go true w = refl
-    go false w = sym (no_fence l (rules.queued b) (no_all (is_of l) (rules.durable b) (rules.queued b) w).1)
+    go false w = sym (no_fence l (rules.queued_items b) (no_all (is_of l) (rules.durable b) (rules.queued_items b) w).1)
 
 -- the greatest durable count
 pub greatest_is : (b : rules.Bookie) (k : BookieFacts) → TablesStand b k → (l : ℕ) → greatest_of (ledger_at k.ledgers l) ≡ greatest l (rules.durable b)
@@ -162,11 +164,11 @@ greatest_is b k t l = ap greatest_of (t.ledgers l) ∙ go (list_any (is_of l) (r
         → greatest_of (if s then Some (record {
           fenced = list_any (is_fence l) (rules.durable b);
           fencing = list_any (is_fence l)
-              (rules.queued b);
+              (rules.queued_items b);
           greatest = greatest l (rules.durable b);
         }) else None) ≡ greatest l (rules.durable b)
     go true w = refl
-    go false w = sym (no_count l (rules.durable b) (no_all (is_of l) (rules.durable b) (rules.queued b) w).0)
+    go false w = sym (no_count l (rules.durable b) (no_all (is_of l) (rules.durable b) (rules.queued_items b) w).0)
 
 -- ---- the rows
 
@@ -177,7 +179,8 @@ add_row_same b k t l e n bytes =
     (λ i. row_of (if added_is b k t l e i then Answers (AddOk l e) else (if fenced_is b k t l i then Answers (AddFenced l e)
     else (if adding_is b k t l e i then Queues (AddOk l e) else (if fencing_is b k t l i then Queues (AddFenced l e)
     else Stores (AddOk l e))))) (AddItem l e n bytes))
-    ∙ go (list_any (is_add l e) (rules.durable b)) (rules.fenced b l) (list_any (is_add l e) (rules.queued b)) (list_any (is_fence l) (rules.queued b))
+    ∙ go (list_any (is_add l e) (rules.durable b)) (rules.has_fence b l) (list_any (is_add l e) (rules.queued_items b))
+    (list_any (is_fence l) (rules.queued_items b))
   where
     go : (a f q r : Bool)
         → row_of (if a then Answers (AddOk l e) else (if f then Answers (AddFenced l e) else (if q then Queues (AddOk l e)
@@ -196,7 +199,7 @@ pub copy_row_same : (b : rules.Bookie) (k : BookieFacts) → TablesStand b k →
 copy_row_same b k t c l e n bytes =
     (λ i. row_of (if there_is b k t l e i then Answers (CopyOk c l e) else (if coming_is b k t l e i then Queues (CopyOk c l e)
     else Stores (CopyOk c l e))) (CopyItem l e n bytes))
-    ∙ go (list_any (is_entry l e) (rules.durable b)) (list_any (is_entry l e) (rules.queued b))
+    ∙ go (list_any (is_entry l e) (rules.durable b)) (list_any (is_entry l e) (rules.queued_items b))
   where
     go : (a q : Bool)
         → row_of (if a then Answers (CopyOk c l e) else (if q then Queues (CopyOk c l e) else Stores (CopyOk c l e))) (CopyItem l e n bytes)
@@ -212,7 +215,7 @@ pub fence_row_same : (b : rules.Bookie) (k : BookieFacts) → TablesStand b k �
 fence_row_same b k t c l =
     (λ i. row_of (if fenced_is b k t l i then Answers (LacIs c l true (greatest_is b k t l i))
     else (if fencing_is b k t l i then Queues (LacIs c l true 0) else Stores (LacIs c l true 0))) (FenceItem l))
-    ∙ go (rules.fenced b l) (list_any (is_fence l) (rules.queued b))
+    ∙ go (rules.has_fence b l) (list_any (is_fence l) (rules.queued_items b))
   where
     go : (a q : Bool)
         → row_of (if a then Answers (LacIs c l true (greatest l (rules.durable b))) else (if q then Queues (LacIs c l true 0)

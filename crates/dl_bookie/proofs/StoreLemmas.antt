@@ -46,21 +46,21 @@ one_more false = refl
 -- the marks of entries with one item more
 noted_at : (b : rules.Bookie) (k : BookieFacts) → TablesStand b k → (new : Entries) (l e : ℕ) (adding : Bool) (x : Item)
     → ((m f : ℕ) → is_entry m f x ≡ (l == m && e == f)) → ((m f : ℕ) → is_entry m f x ≡ true → is_add m f x ≡ adding)
-    → EntryNoted k.entries new l e adding → (m f : ℕ) → marks_at new m f ≡ entry_known (rules.durable b) (rules.queued b ++ x ∷ []) []
+    → EntryNoted k.entries new l e adding → (m f : ℕ) → marks_at new m f ≡ entry_known (rules.durable b) (rules.queued_items b ++ x ∷ []) []
     (place_of b.batches m f) m f
 noted_at b k t new l e adding x same adds noted m f = noted.each m f ∙ go (l == m && e == f) refl
   where
     go : (s : Bool) → (l == m && e == f) ≡ s
         → (if s then Some (entry_noted (marks_at k.entries l e) adding) else marks_at k.entries m f)
-        ≡ entry_known (rules.durable b) (rules.queued b ++ x ∷ []) [] (place_of b.batches m f) m f
+        ≡ entry_known (rules.durable b) (rules.queued_items b ++ x ∷ []) [] (place_of b.batches m f) m f
     go true w =
         let ledger : l ≡ m = eqb-true l m (first_of (l == m) (e == f) w) in
         let entry : e ≡ f = eqb-true e f (second_of (l == m) (e == f) w) in
         let is : is_entry m f x ≡ true = same m f ∙ w in
         (λ i. Some (entry_noted (marks_at k.entries (ledger i) (entry i)) adding))
         ∙ (λ i. Some (entry_noted (t.entries m f i) (sym (adds m f is) i)))
-        ∙ sym (known_push (rules.durable b) (rules.queued b) (place_of b.batches m f) m f x is (place_none b m f))
-    go false w = t.entries m f ∙ sym (known_skip (rules.durable b) (rules.queued b) (place_of b.batches m f) m f x (same m f ∙ w))
+        ∙ sym (known_push (rules.durable b) (rules.queued_items b) (place_of b.batches m f) m f x is (place_none b m f))
+    go false w = t.entries m f ∙ sym (known_skip (rules.durable b) (rules.queued_items b) (place_of b.batches m f) m f x (same m f ∙ w))
 
 -- how many entries there are with it
 noted_count : (b : rules.Bookie) (k : BookieFacts) → TablesStand b k → (new : Entries) (l e : ℕ) (adding : Bool) (x : Item)
@@ -74,11 +74,11 @@ noted_count b k t new l e adding x same noted =
 
 -- the same for each kind of item
 entries_at : (b : rules.Bookie) (k : BookieFacts) → TablesStand b k → (new : Entries) (h : Head) (bytes : List ℕ) → EntriesNoted k.entries new h
-    → (m f : ℕ) → marks_at new m f ≡ entry_known (rules.durable b) (rules.queued b ++ item_of h bytes ∷ []) [] (place_of b.batches m f) m f
+    → (m f : ℕ) → marks_at new m f ≡ entry_known (rules.durable b) (rules.queued_items b ++ item_of h bytes ∷ []) [] (place_of b.batches m f) m f
 entries_at b k t new (head.Add l e n) bytes noted m f = noted_at b k t new l e true (AddItem l e n bytes) (λ a c. refl) (λ a c is. is) noted m f
 entries_at b k t new (head.Copy l e n) bytes noted m f = noted_at b k t new l e false (CopyItem l e n bytes) (λ a c. refl) (λ a c is. refl) noted m f
 entries_at b k t new (head.Fence l) bytes noted m f =
-    ap (λ es. marks_at es m f) noted ∙ t.entries m f ∙ sym (known_skip (rules.durable b) (rules.queued b) (place_of b.batches m f) m f (FenceItem l) refl)
+    ap (λ es. marks_at es m f) noted ∙ t.entries m f ∙ sym (known_skip (rules.durable b) (rules.queued_items b) (place_of b.batches m f) m f (FenceItem l) refl)
 
 -- and how many entries there are
 entries_counted : (b : rules.Bookie) (k : BookieFacts) → TablesStand b k → (new : Entries) (h : Head) (bytes : List ℕ) → EntriesNoted k.entries new h
@@ -104,18 +104,18 @@ item_fences (head.Fence l) bytes m is = is
 
 -- the marks of ledgers with one item more
 ledgers_at : (b : rules.Bookie) (k : BookieFacts) → TablesStand b k → (new : Ledgers) (h : Head) (bytes : List ℕ) → LedgersNoted k.ledgers new h
-    → (m : ℕ) → ledger_at new m ≡ ledger_known (rules.durable b) (rules.queued b ++ item_of h bytes ∷ []) [] m
+    → (m : ℕ) → ledger_at new m ≡ ledger_known (rules.durable b) (rules.queued_items b ++ item_of h bytes ∷ []) [] m
 ledgers_at b k t new h bytes noted m = noted.each m ∙ go (ledger_in h == m) refl
   where
     go : (s : Bool) → (ledger_in h == m) ≡ s
         → (if s then Some (ledger_noted (ledger_at k.ledgers (ledger_in h)) (is_fence_head h)) else ledger_at k.ledgers m)
-        ≡ ledger_known (rules.durable b) (rules.queued b ++ item_of h bytes ∷ []) [] m
+        ≡ ledger_known (rules.durable b) (rules.queued_items b ++ item_of h bytes ∷ []) [] m
     go true w =
         let is : is_of m (item_of h bytes) ≡ true = ap (λ l. l == m) (item_ledger h bytes) ∙ w in
         (λ i. Some (ledger_noted (ledger_at k.ledgers (eqb-true (ledger_in h) m w i)) (is_fence_head h)))
         ∙ (λ i. Some (ledger_noted (t.ledgers m i) (sym (item_fences h bytes m is) i)))
-        ∙ sym (ledger_push (rules.durable b) (rules.queued b) m (item_of h bytes) is)
-    go false w = t.ledgers m ∙ sym (ledger_skip (rules.durable b) (rules.queued b) m (item_of h bytes) (ap (λ l. l == m) (item_ledger h bytes) ∙ w))
+        ∙ sym (ledger_push (rules.durable b) (rules.queued_items b) m (item_of h bytes) is)
+    go false w = t.ledgers m ∙ sym (ledger_skip (rules.durable b) (rules.queued_items b) m (item_of h bytes) (ap (λ l. l == m) (item_ledger h bytes) ∙ w))
 
 -- and how many ledgers there are
 ledgers_counted : (b : rules.Bookie) (k : BookieFacts) → TablesStand b k → (new : Ledgers) (h : Head) (bytes : List ℕ) → LedgersNoted k.ledgers new h
@@ -144,9 +144,9 @@ stored_stands b k now client session reply h bytes whole stored s =
       piece = Some
           (record { head = h; size = item_length x; span = stored.span });
     } in
-    let queued : rules.queued (rules.waits b w) ≡ rules.queued b ++ x ∷ [] = items_push b.queue w in
+    let queued : rules.queued_items (rules.waits b w) ≡ rules.queued_items b ++ x ∷ [] = items_push b.queue w in
     let all : rules.all_items (rules.waits b w) ≡ rules.all_items b ++ x ∷ [] =
-    ap (λ (xs : List Item). rules.durable b ++ xs) queued ∙ sym (append_assoc (rules.durable b) (rules.queued b) (x ∷ [])) in
+    ap (λ (xs : List Item). rules.durable b ++ xs) queued ∙ sym (append_assoc (rules.durable b) (rules.queued_items b) (x ∷ [])) in
     let piece : IsPiece now.pool (record { head = h; size = item_length x; span = stored.span }) x =
     record { bytes = bytes; head = refl; here = stored.pool.here; size = refl } in
     let kept = zip_map (IsQueued k.pool) (IsQueued now.pool) (queued_kept k.pool now.pool stored.span (item_bytes x) stored.pool

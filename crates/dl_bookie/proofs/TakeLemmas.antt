@@ -29,26 +29,26 @@ does b now client session row h bytes result t f same =
 -- an Add is taken
 pub add_taken : (b : rules.Bookie) (k now : BookieFacts) (client session l e n : ℕ) (bytes : List ℕ) (row : Row) (result : Taken) → StandsFor b k
     → row ≡ marked_add_row (marks_at k.entries l e) (ledger_at k.ledgers l) l e → Follows b now client session row (head.Add l e n) bytes result
-    → Does b now client session (rules.taken b (Add l e n bytes)) result
-unfolding rules.taken
+    → Does b now client session (rules.table_row b (Add l e n bytes)) result
+unfolding rules.table_row
 add_taken b k now client session l e n bytes row result s is f =
-    does b now client session row (head.Add l e n) bytes result (rules.taken b (Add l e n bytes)) f
+    does b now client session row (head.Add l e n) bytes result (rules.table_row b (Add l e n bytes)) f
     (ap (λ r. rules.with_room b l (Some e) (row_of r (AddItem l e n bytes))) is ∙ ap (rules.with_room b l (Some e)) (add_row_same b k s.tables l e n bytes))
 
 -- a Copy is taken
 pub copy_taken : (b : rules.Bookie) (k now : BookieFacts) (client session c l e n : ℕ) (bytes : List ℕ) (row : Row) (result : Taken) → StandsFor b k
     → row ≡ marked_copy_row (marks_at k.entries l e) c l e → Follows b now client session row (head.Copy l e n) bytes result
-    → Does b now client session (rules.taken b (Copy c l e n bytes)) result
-unfolding rules.taken
+    → Does b now client session (rules.table_row b (Copy c l e n bytes)) result
+unfolding rules.table_row
 copy_taken b k now client session c l e n bytes row result s is f =
-    does b now client session row (head.Copy l e n) bytes result (rules.taken b (Copy c l e n bytes)) f
+    does b now client session row (head.Copy l e n) bytes result (rules.table_row b (Copy c l e n bytes)) f
     (ap (λ r. rules.with_room b l (Some e) (row_of r (CopyItem l e n bytes))) is ∙ ap (rules.with_room b l (Some e)) (copy_row_same b k s.tables c l e n bytes))
 
 -- a fence is taken
 pub fence_taken : (b : rules.Bookie) (k now : BookieFacts) (client session c l : ℕ) (bytes : List ℕ) (row : Row) (result : Taken) → StandsFor b k
     → row ≡ marked_fence_row (ledger_at k.ledgers l) c l → Follows b now client session row (head.Fence l) bytes result
-    → Does b now client session (rules.taken b (AskLac c l true)) result
-unfolding rules.taken
+    → Does b now client session (rules.table_row b (AskLac c l true)) result
+unfolding rules.table_row
 fence_taken b k now client session c l bytes row result s is f =
-    does b now client session row (head.Fence l) bytes result (rules.taken b (AskLac c l true)) f
+    does b now client session row (head.Fence l) bytes result (rules.table_row b (AskLac c l true)) f
     (ap (λ r. rules.with_room b l None (row_of r (FenceItem l))) is ∙ ap (rules.with_room b l None) (fence_row_same b k s.tables c l))

@@ -5,7 +5,7 @@ use Rattle.dl_depot.specs.Device.{Looks}
 use Rattle.dl_depot.proofs.Moments.{keeps_refl}
 use Rattle.dl_journal.specs.declared.batch.Batch.{Batch}
 use Rattle.dl_journal.specs.State.{JournalState}
-use Rattle.dl_journal.specs.Settled.{Settled, Stands}
+use Rattle.dl_journal.specs.Settled.{IsSettled, Stands}
 
 -- no time passes
 pub moment_same : (v : View) (t : ℕ) → v.moment ≤ t → t ≤ v.moment → t ≡ v.moment
@@ -23,8 +23,8 @@ looks_refl file v = record {
 }
 
 -- what a journal stood for it stands for after a call that reads its file
-pub settled_looks : (a b : View) (j : JournalState) (bytes : List ℕ) (batches : List Batch) → Looks a b j.file → Settled a j bytes batches
-    → Settled b j bytes batches
+pub settled_looks : (a b : View) (j : JournalState) (bytes : List ℕ) (batches : List Batch) → Looks a b j.file → IsSettled a j bytes batches
+    → IsSettled b j bytes batches
 settled_looks a b j bytes batches w s = record {
   on_disk = record {
     shown = w.same_shown ∙ s.on_disk.shown;

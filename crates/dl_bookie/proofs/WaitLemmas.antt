@@ -24,7 +24,7 @@ pub items_same : (queue : List rules.Waiting) (w : rules.Waiting) → w.item ≡
 items_same queue w none = items_push queue w ∙ ap (λ (o : Option Item). rules.items_of queue ++ option_to_list o) none ∙ append-nil (rules.items_of queue)
 
 -- the tables stand, where the items are the same
-pub tables_same : (b c : rules.Bookie) (k l : BookieFacts) → c.batches ≡ b.batches → rules.queued c ≡ rules.queued b → l.entries ≡ k.entries
+pub tables_same : (b c : rules.Bookie) (k l : BookieFacts) → c.batches ≡ b.batches → rules.queued_items c ≡ rules.queued_items b → l.entries ≡ k.entries
     → l.ledgers ≡ k.ledgers
     → TablesStand b k → TablesStand c l
 tables_same b c k l batches queued entries ledgers t =

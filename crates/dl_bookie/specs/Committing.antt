@@ -9,7 +9,7 @@ use Rattle.dl_journal.specs.Batches.{IsJournal}
 use Rattle.dl_journal.specs.Calls.{MakesCalls, Spends}
 use Rattle.dl_journal.specs.Commits.{Shows, commit_calls, is_gate_open}
 use Rattle.dl_rules_nodes.specs.Items.{Item, body_of}
-use Rattle.dl_rules_nodes.specs.Bookies.{Bookie, Reply as RuledReply, queued, committed, stopped, replies_of}
+use Rattle.dl_rules_nodes.specs.Bookies.{Bookie, Reply as RuledReply, queued_items, after_commit, after_stop, replies_of}
 use Rattle.dl_bookie.specs.declared.replies.Reply.{Reply}
 use Rattle.dl_bookie.specs.Facts.{BookieFacts}
 use Rattle.dl_bookie.specs.Standing.{StandsFor, OnFile, batches_of}
@@ -20,7 +20,7 @@ ruled_reply r = record { client = r.client; session = r.session; msg = r.msg }
 
 -- bytes hold the durable batches, or these and the one new batch
 abbrev pub HoldsEither : Bookie → List ℕ → Type 0
-HoldsEither b bytes = IsJournal bytes (batches_of b) ⊎ IsJournal bytes (batches_of (committed b))
+HoldsEither b bytes = IsJournal bytes (batches_of b) ⊎ IsJournal bytes (batches_of (after_commit b))
 
 -- the writing calls of a commit of these items: none where there is no item
 abbrev pub calls_for : JournalState → List Item → List DeviceCall
@@ -32,16 +32,16 @@ pub record Commits (old new : View) (b : Bookie) (k n : BookieFacts) (replies : 
   -- at each moment each image holds the durable batches from before, or these and the one new batch
   pub any_moment : (shown : List ℕ) → old.shown k.journal.file ≡ Some shown → OnFile old b k → LeavesOnly k.journal.file old new (HoldsEither b)
   -- with an Ok the node has gone on, in memory and in the file, and the replies that waited leave; they leave with nothing else
-  pub stands : OnOk result (StandsFor (committed b) n)
-  pub on_file : OnFile old b k → OnOk result (OnFile new (committed b) n)
+  pub stands : OnOk result (StandsFor (after_commit b) n)
+  pub on_file : OnFile old b k → OnOk result (OnFile new (after_commit b) n)
   pub answers : OnOk result (map ruled_reply replies ≡ replies_of b)
   -- the writing calls are those of one commit, or some first ones
-  pub calls : MakesCalls old new k.journal.file (calls_for k.journal (queued b)) result
+  pub calls : MakesCalls old new k.journal.file (calls_for k.journal (queued_items b)) result
   -- where a fuse stops it, the file shows the new batch exactly where its gate was written
-  pub spends : 0 < length (queued b) → (f : Fuse) (shown : List ℕ) → old.fuse k.journal.file ≡ Some (Some f) → old.shown k.journal.file ≡ Some shown
+  pub spends : 0 < length (queued_items b) → (f : Fuse) (shown : List ℕ) → old.fuse k.journal.file ≡ Some (Some f) → old.shown k.journal.file ≡ Some shown
       → OnFile old b k
-      → Spends old new k.journal.file (calls_for k.journal (queued b))
-      (λ outcome left. Shows new k.journal.file (batches_of (stopped b (is_gate_open outcome left)))) f result
+      → Spends old new k.journal.file (calls_for k.journal (queued_items b))
+      (λ outcome left. Shows new k.journal.file (batches_of (after_stop b (is_gate_open outcome left)))) f result
 
 -- After a fault nothing waits, no reply leaves, and the value has failed.
 pub record IsSpoilt (n : BookieFacts) (replies : List Reply) : Type 0 where

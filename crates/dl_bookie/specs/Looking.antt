@@ -6,7 +6,7 @@ use Rattle.dl_msg.specs.declared.msg.Msg.{Msg}
 use Rattle.dl_msg.specs.declared.msg.Msg.TheVariants.{AskLac, AskEntry, EntryIs}
 use Rattle.dl_msg.specs.Whole.{IsWhole}
 use Rattle.dl_record.specs.Grammar.{IsEntryBytes}
-use Rattle.dl_rules_nodes.specs.Bookies.{Bookie, looked}
+use Rattle.dl_rules_nodes.specs.Bookies.{Bookie, look_answer}
 use Rattle.dl_marks.specs.declared.marks.Place.{Place}
 use Rattle.dl_bookie.specs.declared.look_fault.LookFault.{LookFault}
 use Rattle.dl_bookie.specs.declared.look_fault.LookFault.TheVariants.{Device, Failed, Damaged, NoMemory}
@@ -65,8 +65,8 @@ kept_after k result = k
 -- What a look does of what stands for a node. Where the depot doesn't tell the bytes of the file, those of an entry are what the
 -- device gave.
 pub record LooksUp (old new : View) (b : Bookie) (k : BookieFacts) (m : Msg) (result : Result Msg LookFault) : Type 0 where
-  pub answer : IfOk result (λ reply. IsLike (looked b m) reply)
+  pub answer : IfOk result (λ reply. IsLike (look_answer b m) reply)
   pub whole : IfOk result IsWhole
-  pub told : (shown : List ℕ) → old.shown k.journal.file ≡ Some shown → OnFile old b k → IfOk result (λ reply. reply ≡ looked b m)
+  pub told : (shown : List ℕ) → old.shown k.journal.file ≡ Some shown → OnFile old b k → IfOk result (λ reply. reply ≡ look_answer b m)
   pub on_file : OnFile old b k → OnFile new b k
   pub undamaged : (shown : List ℕ) → old.shown k.journal.file ≡ Some shown → OnFile old b k → (at : ℕ) → IsErrOf result (Damaged at) → ⊥

@@ -2,13 +2,13 @@
 use Rattle.std.specs.Prelude.{◌≡◌, ℕ, ◌+◌, false, List, [], ◌∷◌, length, Option, Some, None}
 use Rattle.std.specs.List.{AllZip, AllByRecursion}
 use Rattle.dl_depot.specs.View.{View}
-use Rattle.dl_journal.specs.Settled.{Settled}
+use Rattle.dl_journal.specs.Settled.{IsSettled}
 use Rattle.dl_journal.specs.declared.batch.Batch.{Batch}
 use Rattle.dl_pool.specs.Pools.{Held, bytes_at}
 use Rattle.dl_record.specs.Grammar.{IsEntryBytes}
 use Rattle.dl_rules_nodes.specs.Items.{Item, AddItem, CopyItem, FenceItem, item_bytes, item_length, body_of}
 use Rattle.dl_rules_nodes.specs.Counts.{entries_count, ledgers_count}
-use Rattle.dl_rules_nodes.specs.Bookies.{Bookie, Waiting, durable, queued, all_items, gate_of}
+use Rattle.dl_rules_nodes.specs.Bookies.{Bookie, Waiting, durable, queued_items, all_items, gate_of}
 use Rattle.dl_items.specs.Heads.{item_of}
 use Rattle.dl_marks.specs.Tables.{marks_at, ledger_at}
 use Rattle.dl_marks.specs.Known.{entry_known, ledger_known}
@@ -21,9 +21,9 @@ use Rattle.dl_bookie.specs.Facts.{BookieFacts}
 
 -- The tables say of each entry and each ledger what the items say.
 pub record TablesStand (b : Bookie) (k : BookieFacts) : Type 0 where
-  pub entries : (l e : ℕ) → marks_at k.entries l e ≡ entry_known (durable b) (queued b) [] (place_of b.batches l e) l e
+  pub entries : (l e : ℕ) → marks_at k.entries l e ≡ entry_known (durable b) (queued_items b) [] (place_of b.batches l e) l e
   pub entries_kept : length k.entries ≡ entries_count (all_items b)
-  pub ledgers : (l : ℕ) → ledger_at k.ledgers l ≡ ledger_known (durable b) (queued b) [] l
+  pub ledgers : (l : ℕ) → ledger_at k.ledgers l ≡ ledger_known (durable b) (queued_items b) [] l
   pub ledgers_kept : length k.ledgers ≡ ledgers_count (all_items b)
 
 -- ---- the queue
@@ -79,4 +79,4 @@ pub record StandsFor (b : Bookie) (k : BookieFacts) : Type 0 where
 
 -- where the depot tells the bytes of the file, they are the node's batches, in each image
 abbrev pub OnFile : View → Bookie → BookieFacts → Type 0
-OnFile v b k = (shown : List ℕ) → v.shown k.journal.file ≡ Some shown → Settled v k.journal shown (batches_of b)
+OnFile v b k = (shown : List ℕ) → v.shown k.journal.file ≡ Some shown → IsSettled v k.journal shown (batches_of b)

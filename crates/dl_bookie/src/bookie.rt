@@ -6,11 +6,11 @@ ghost use Rattle.dl_depot.specs.Device.{Looks};
 ghost use Rattle.dl_journal.specs.Limits.{journal_limit};
 ghost use Rattle.dl_journal.specs.Settled.{Stands};
 ghost use Rattle.dl_journal.specs.Commits.{spare_of, IsEmpty, CountsCommit};
-ghost use Rattle.dl_pool.specs.Pools.{nothing_held};
+ghost use Rattle.dl_pool.specs.Pools.{empty_pool};
 ghost use Rattle.dl_msg.specs.Whole.{IsWhole};
 ghost use Rattle.dl_rules_nodes.specs.Limits.{pool_pages};
 ghost use Rattle.dl_rules_nodes.specs.Items.{item_length, is_entry};
-ghost use Rattle.dl_rules_nodes.specs.Bookies.{Bookie as Node, after, taken, durable, fenced, named};
+ghost use Rattle.dl_rules_nodes.specs.Bookies.{Bookie as Node, after, table_row, durable, has_fence, named_entry};
 ghost use Rattle.dl_items.specs.Heads.{item_of, ledger_in, entry_named};
 ghost use Rattle.dl_bookie.specs.Pieces.{Fits};
 ghost use Rattle.dl_bookie.specs.Standing.{StandsFor, HasEntry};
@@ -69,7 +69,7 @@ struct Room {
 impl Room {
     /// Takes it all. It is reserved, and nothing of it is written.
     fn new(alloc: Global) -> Result<Room, NoMemory>
-        ensures pool { IfOk result (λ r. r.pool ≡ nothing_held pool_pages) }
+        ensures pool { IfOk result (λ r. r.pool ≡ empty_pool pool_pages) }
         ensures queue { IfOk result (λ r. r.queue.items ≡ []) }
         ensures places { IfOk result (λ r. MOST_WAITING ≤ deque_capacity r.queue) }
         ensures frame { IfOk result (λ r. FRAME ≤ vec_capacity r.frame) }
@@ -137,7 +137,7 @@ impl Bookie {
         requires file { journal.file ≡ file }
         requires works { journal.failed ≡ false }
         requires below { journal.gate < journal_limit }
-        requires pool { room.pool ≡ nothing_held pool_pages }
+        requires pool { room.pool ≡ empty_pool pool_pages }
         requires queue { room.queue.items ≡ [] }
         requires places { MOST_WAITING ≤ deque_capacity room.queue }
         requires frame { FRAME ≤ vec_capacity room.frame }
@@ -200,7 +200,7 @@ impl Bookie {
 
     /// Whether a fence of a ledger is durable.
     pub fn fenced(&self, ledger: u64) -> bool
-        ensures { (b : Node) → StandsFor b self.now → result ≡ fenced b ledger }
+        ensures { (b : Node) → StandsFor b self.now → result ≡ has_fence b ledger }
     {
         is_fenced(self.ledgers.get(ledger))
     }
@@ -340,12 +340,12 @@ impl Bookie {
     /// at once, or by the next commit, which the reply then waits for; `Full` comes exactly where pages, places in the index, ledgers,
     /// places in the queue or room in the journal are wanting, tested in this order. Every other message is left to `look`. It takes no
     /// memory.
-    #[tactic(auto, unfolding(dl_rules_nodes::specs::Bookies::taken))]
+    #[tactic(auto, unfolding(dl_rules_nodes::specs::Bookies::table_row))]
     pub fn take(&mut self, client: u16, session: u64, msg: &Msg) -> Taken
         requires { IsWhole msg.now }
-        ensures taken { (b : Node) → StandsFor b self.old → result ≡ outcome_of (taken b msg.now) }
+        ensures taken { (b : Node) → StandsFor b self.old → result ≡ outcome_of (table_row b msg.now) }
         ensures stands { (b : Node) → StandsFor b self.old
-            → StandsFor (after b client session (taken b msg.now)) self.new }
+            → StandsFor (after b client session (table_row b msg.now)) self.new }
         ensures journal { self.new.journal ≡ self.old.journal }
     {
         match msg {
@@ -558,7 +558,7 @@ impl Bookie {
 
 /// The answer that there is no room.
 fn full_of(what: Resource, head: Head) -> Msg
-    ensures { result ≡ Msg.Full what (ledger_in head) (named (entry_named head)) }
+    ensures { result ≡ Msg.Full what (ledger_in head) (named_entry (entry_named head)) }
 {
     Msg::Full {
         what,

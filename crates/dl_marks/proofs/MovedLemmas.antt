@@ -4,7 +4,7 @@ use Rattle.std.proofs.Common.{arith, append-nil}
 use Rattle.std.specs.List.{list_any}
 use Rattle.std.proofs.lemmas.List.Sums.{sum_by-cons}
 use Rattle.dl_rules_nodes.specs.Items.{Item, items_length, is_add, is_entry, is_fence, is_of, greatest}
-use Rattle.dl_rules_nodes.specs.Bookies.{Bookie, durable, queued, with_batch, gate_of}
+use Rattle.dl_rules_nodes.specs.Bookies.{Bookie, durable, queued_items, with_batch, gate_of}
 use Rattle.dl_marks.specs.declared.marks.Place.{Place}
 use Rattle.dl_marks.specs.Tables.{Entries, Ledgers, marks_at, ledger_at}
 use Rattle.dl_marks.specs.Places.{place_in, or_place, place_from, place_of}
@@ -57,24 +57,25 @@ ledger_settled before settled l = λ i.
     else None
 
 -- the entries of a node whose queue became durable
-pub entries_moved : (b : Bookie) (entries : Entries) (ledgers : Ledgers) → Moving b (queued b) [] entries ledgers → (l e : ℕ)
-    → marks_at entries l e ≡ entry_known (durable b ++ queued b) [] [] (place_of (with_batch b.batches (queued b)) l e) l e
+pub entries_moved : (b : Bookie) (entries : Entries) (ledgers : Ledgers) → Moving b (queued_items b) [] entries ledgers → (l e : ℕ)
+    → marks_at entries l e ≡ entry_known (durable b ++ queued_items b) [] [] (place_of (with_batch b.batches (queued_items b)) l e) l e
 entries_moved b entries ledgers m l e =
     m.entry l e
-    ∙ known_settled (durable b ++ queued b) (queued b) (or_place (place_of b.batches l e) (place_in (gate_of b.batches + 13) (queued b) l e)) l e
-    ∙ ap (λ (p : Option Place). entry_known (durable b ++ queued b) [] [] p l e) (sym (place_of_with b.batches (queued b) l e))
+    ∙ known_settled (durable b ++ queued_items b) (queued_items b)
+    (or_place (place_of b.batches l e) (place_in (gate_of b.batches + 13) (queued_items b) l e)) l e
+    ∙ ap (λ (p : Option Place). entry_known (durable b ++ queued_items b) [] [] p l e) (sym (place_of_with b.batches (queued_items b) l e))
 
 -- and its ledgers
-pub ledgers_moved : (b : Bookie) (entries : Entries) (ledgers : Ledgers) → Moving b (queued b) [] entries ledgers → (l : ℕ)
-    → ledger_at ledgers l ≡ ledger_known (durable b ++ queued b) [] [] l
-ledgers_moved b entries ledgers m l = m.ledger l ∙ ledger_settled (durable b ++ queued b) (queued b) l
+pub ledgers_moved : (b : Bookie) (entries : Entries) (ledgers : Ledgers) → Moving b (queued_items b) [] entries ledgers → (l : ℕ)
+    → ledger_at ledgers l ≡ ledger_known (durable b ++ queued_items b) [] [] l
+ledgers_moved b entries ledgers m l = m.ledger l ∙ ledger_settled (durable b ++ queued_items b) (queued_items b) l
 
 -- before the first one, none is done
 pub none_moved : (b : Bookie) (entries : Entries) (ledgers : Ledgers)
-    → ((l e : ℕ) → marks_at entries l e ≡ entry_known (durable b) (queued b) [] (place_of b.batches l e) l e) → ((l : ℕ)
-    → ledger_at ledgers l ≡ ledger_known (durable b) (queued b) [] l)
-    → Moving b [] (queued b) entries ledgers
+    → ((l e : ℕ) → marks_at entries l e ≡ entry_known (durable b) (queued_items b) [] (place_of b.batches l e) l e) → ((l : ℕ)
+    → ledger_at ledgers l ≡ ledger_known (durable b) (queued_items b) [] l)
+    → Moving b [] (queued_items b) entries ledgers
 none_moved b entries ledgers es ls = record {
-  entry = λ l e. es l e ∙ (λ i. entry_known (sym (append-nil (durable b)) i) (queued b) [] (sym (or_nothing (place_of b.batches l e)) i) l e);
-  ledger = λ l. ls l ∙ (λ i. ledger_known (sym (append-nil (durable b)) i) (queued b) [] l);
+  entry = λ l e. es l e ∙ (λ i. entry_known (sym (append-nil (durable b)) i) (queued_items b) [] (sym (or_nothing (place_of b.batches l e)) i) l e);
+  ledger = λ l. ls l ∙ (λ i. ledger_known (sym (append-nil (durable b)) i) (queued_items b) [] l);
 }

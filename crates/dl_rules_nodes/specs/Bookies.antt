@@ -46,8 +46,8 @@ abbrev pub all_items : Bookie → List Item
 all_items b = durable b ++ queued_items b
 
 -- whether a fence of the ledger is durable
-abbrev pub is_fenced : Bookie → ℕ → Bool
-is_fenced b l = list_any (is_fence l) (durable b)
+abbrev pub has_fence : Bookie → ℕ → Bool
+has_fence b l = list_any (is_fence l) (durable b)
 
 -- ---- the table
 
@@ -59,13 +59,13 @@ pub data Taken : Type 0 where
 
 -- the greatest count that is known of a ledger
 abbrev pub lac_of : Bookie → ℕ → ℕ → Msg
-lac_of b tag l = LacIs tag l (is_fenced b l) (greatest l (durable b))
+lac_of b tag l = LacIs tag l (has_fence b l) (greatest l (durable b))
 
 -- an entry of a writer: the first row that fits
 abbrev pub add_row : Bookie → (ledger entry count : ℕ) → List ℕ → Taken
 add_row b l e n bytes =
     if list_any (is_add l e) (durable b) then Answers (AddOk l e)
-    else (if is_fenced b l then Answers (AddFenced l e)
+    else (if has_fence b l then Answers (AddFenced l e)
     else (if list_any (is_add l e) (queued_items b) then Queues (AddOk l e) None
     else (if list_any (is_fence l) (queued_items b) then Queues (AddFenced l e) None
     else Queues (AddOk l e) (Some (AddItem l e n bytes)))))
@@ -80,7 +80,7 @@ copy_row b t l e n bytes =
 -- a fence; the count that is told is that after the batch that the reply waits for
 abbrev pub fence_row : Bookie → (tag ledger : ℕ) → Taken
 fence_row b t l =
-    if is_fenced b l then Answers (lac_of b t l)
+    if has_fence b l then Answers (lac_of b t l)
     else (if list_any (is_fence l) (queued_items b) then Queues (LacIs t l true 0) None
     else Queues (LacIs t l true 0) (Some (FenceItem l)))
 
@@ -160,7 +160,7 @@ after b client session _ = b
 -- the answer to an asked entry, by the first durable item that has it
 abbrev pub entry_answer : Bookie → (tag ledger entry : ℕ) → Option Item → Msg
 entry_answer b tag l e (Some x) = EntryIs tag l e (entry_in x)
-entry_answer b tag l e None = NoEntry tag l e (is_fenced b l)
+entry_answer b tag l e None = NoEntry tag l e (has_fence b l)
 
 -- the answer from the durable list
 unfoldable pub look_answer : Bookie → Msg → Msg

@@ -6,7 +6,7 @@ use Rattle.dl_codec.specs.Fields.{IsBytes}
 use Rattle.dl_fields.specs.Readers.{Exact}
 use Rattle.dl_session.specs.Sessions.{Known}
 use Rattle.dl_rules_nodes.specs.Items.{Item, item_bytes, item_length, items_length, body_of, IsItem, MetaItem, meta_item_bytes}
-use Rattle.dl_rules_nodes.specs.Bookies.{Bookie, durable, queued_items, all_items, is_fenced, table_row, after, after_commit, after_stop}
+use Rattle.dl_rules_nodes.specs.Bookies.{Bookie, durable, queued_items, all_items, has_fence, table_row, after, after_commit, after_stop}
 use Rattle.dl_rules_nodes.specs.Reading.{item_from, items_in}
 use Rattle.dl_rules_nodes.specs.Metadata.{MetaNode}
 use Rattle.dl_rules_nodes.specs.MetaReading.{meta_item_from}
@@ -30,7 +30,7 @@ CommitsMoveItems = (b : Bookie) → all_items (after_commit b) ≡ all_items b
 
 -- a fence that is durable stays
 abbrev pub FencesStay : Type 0
-FencesStay = (b : Bookie) (ledger : ℕ) → is_fenced b ledger ≡ true → is_fenced (after_commit b) ledger ≡ true
+FencesStay = (b : Bookie) (ledger : ℕ) → has_fence b ledger ≡ true → has_fence (after_commit b) ledger ≡ true
 
 -- the lengths of items are those of their bytes
 pub record LengthsAreOfBytes : Type 0 where

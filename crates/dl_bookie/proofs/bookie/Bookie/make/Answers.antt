@@ -1,5 +1,5 @@
 use Rattle.std.proofs.Common.{◌≡◌, [], false, ◌∙◌}
-use Rattle.dl_pool.specs.Pools.{nothing_held}
+use Rattle.dl_pool.specs.Pools.{empty_pool}
 use Rattle.dl_rules_nodes.specs.Limits.{pool_pages}
 use Rattle.dl_bookie.proofs.MakeLemmas.{fresh, makes_node}
 use Rattle.dl_bookie.proofs.bookie.Bookie.make.Goals as goal
@@ -9,7 +9,7 @@ returns-in-Ok-make g c =
     let is : c.of.result ≡ fresh c.in-Ok-make.journal =
     c.of.ensures ∙ (λ i. record {
       journal = c.in-Ok-make.journal;
-      pool = nothing_held pool_pages;
+      pool = empty_pool pool_pages;
       entries = c.in-Ok.ensures i;
       ledgers = c.in-Ok-new.ensures i;
       queue = [];
