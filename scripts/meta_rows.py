@@ -281,11 +281,12 @@ def found(data):
 # ---- the rows
 
 
-def table(name, kind, values, text):
-    print(f"\n{text}\npub static {name}: [{kind}; {len(values)}] = [")
-    for i in range(0, len(values), 16):
-        print("    " + ", ".join(str(x) for x in values[i:i + 16]) + ",")
-    print("];")
+def text_of(data):
+    return " ".join(str(c) for c in data)
+
+
+def table(name, rows, text):
+    print(f"\n{text}\npub const {name}: &str = \"\\\n" + "\n".join(rows) + "\";")
 
 
 def ask(session, count, op):
@@ -304,11 +305,12 @@ def spoilt():
     data = journal(ITEMS)
     print("//! A file of ten items, and what a load finds where it is spoilt: the place of the fault; or 60000 where there is no store;")
     print("//! or 61000, and 100 for each live session, and the last session given. Written by scripts/meta_rows.py.")
-    table("FILE", "u8", data, "/// The file.")
-    for name, change, text in [("TURNED", lambda c: 255 - c, "each bit of a byte is turned"), ("RAISED", lambda c: (c + 1) % 256, "a byte is one higher")]:
-        values = [found(data[:i] + bytes([change(data[i])]) + data[i + 1:]) for i in range(len(data))]
-        table(name, "u16", values, f"/// What is found where {text}, by its place.")
-    table("CUT", "u16", [found(data[:i]) for i in range(len(data))], "/// What is found where so many bytes are left.")
+    table("FILE", [text_of(data)], "/// The bytes of the file.")
+    rows = []
+    for i, c in enumerate(data):
+        turned, raised = (found(data[:i] + bytes([change]) + data[i + 1:]) for change in (255 - c, (c + 1) % 256))
+        rows.append(f"{found(data[:i])} {turned} {raised}")
+    table("FOUND", rows, "/// What is found where the file ends before a byte, where each bit of that byte is turned, and where it is one higher.")
 
 
 PATHS = [b"/", b"/a", b"/b", b"/a/c", b"/a/d", b"/b/e", b"/a/c/f", b"/a/0000000000", b"/streams", b"/streams/s", b"/x/y"]
@@ -327,30 +329,29 @@ def random_op(draw):
 
 
 def requests():
-    draw, tree, sessions, rows = random.Random(5), Tree(b"\3\3\3\2"), Sessions(), b""
+    draw, tree, sessions, rows = random.Random(5), Tree(b"\3\3\3\2"), Sessions(), []
     for i in range(120):
         verb = draw.choice([1] + [3] * 14 + [2] if sessions.live else [1])
-        session, count, op, reply = draw.randrange(1, sessions.last + 2), draw.choice([0, 1, 1, 1, 2]), b"", b""
+        session, count = draw.randrange(1, sessions.last + 2), draw.choice([0, 1, 1, 1, 2])
         if verb == 1:
             session = sessions.last + 1
             sessions.connect(session)
+            rows.append(f"connect => {session}")
         elif verb == 2:
-            reply = number(int(session in sessions.live), 1)
+            rows.append(f"end {session} => {str(session in sessions.live).lower()}")
             sessions.live.pop(session, None)
             tree.nodes = {path: node for path, node in tree.nodes.items() if node.owner != session}
         else:
             request = random_op(draw)
-            op, reply, count = op_bytes(request), b"\0", sessions.live.get(session, 0) + count
+            reply, count = "expired", sessions.live.get(session, 0) + count
             if session in sessions.live:
                 runs = count > sessions.live[session]
-                reply = b"\2" + tree.apply(session, request) if runs else b"\1"
+                reply = "bytes " + text_of(tree.apply(session, request)) if runs else "none"
                 sessions.live[session] = max(count, sessions.live[session])
-        rows += number(verb, 1) + number(session, 8) + number(count, 4) + run(op, 2) + run(reply, 2)
-    print("//! Random requests of several sessions and their replies, one behind another, each as a verb, a session, a number, and two runs of")
-    print("//! bytes behind their lengths of two bytes. The verb 1 is a connection, which gives the session; 2 ends a session, and the second")
-    print("//! run says whether it was live; 3 is a request, whose reply is 0 for an expired session, 1 for none, or 2 and the answer.")
-    print("//! Written by scripts/meta_rows.py.")
-    table("ROWS", "u8", rows, "/// The rows.")
+            rows.append(f"{session} {count} bytes {text_of(op_bytes(request))} => {reply}")
+    print("//! Random requests of several sessions and their replies. A row is `connect => SESSION`, `end SESSION => WAS LIVE`, or `SESSION NUMBER")
+    print("//! REQUEST => REPLY`, with the bytes of a request and of an answer in decimal. Written by scripts/meta_rows.py.")
+    table("ROWS", rows, "/// The rows.")
 
 
 if __name__ == "__main__":

@@ -12,7 +12,6 @@ ghost use Rattle.dl_formats.specs.NodeBytes.{IsConf};
 
 use crate::meta_fault::MetaFault;
 use crate::store::MetaStore;
-use dl_codec::read::{get_u32, get_u64};
 use dl_depot::depot::Depot;
 use dl_depot::file_id::FileId;
 use dl_depot::fuse::Outcome;
@@ -28,7 +27,7 @@ use dl_types::meta_op::MetaOp;
 use dl_types::one_answer::OneAnswer;
 use dl_types::path::Path;
 use requests::ROWS;
-use spoilt::{CUT, FILE, RAISED, TURNED};
+use spoilt::{FILE, FOUND};
 use std::alloc::{AllocError, Global};
 use std::test::Fail;
 
@@ -74,11 +73,20 @@ fn put_one(out: &mut Vec<u8>, text: &str) -> Result<(), AllocError> {
     Ok(())
 }
 
-/// One operation, or several with `; ` between them after the word `all`.
-fn request_of(alloc: Global, text: &str) -> Result<MetaOp, Fail>
-    ensures valid { IfOk result IsRequest }
-    ensures allowed { IfOk result (IsAllowed (allows AllButConf)) }
-{
+/// Bytes in decimal, with a space between two.
+fn bytes_of(alloc: Global, text: &str) -> Result<Vec<u8>, AllocError> {
+    let mut bytes = Vec::new(alloc);
+    for word in text.split(' ') {
+        bytes.push(word.parse().unwrap_or(0))?;
+    }
+    Ok(bytes)
+}
+
+/// The bytes of one operation, or of several with `; ` between them after the word `all`; or these bytes, after the word `bytes`.
+fn spelling_of(alloc: Global, text: &str) -> Result<Vec<u8>, AllocError> {
+    if let Some(text) = text.strip_prefix("bytes ") {
+        return bytes_of(alloc, text);
+    }
     let mut bytes = Vec::new(alloc);
     match text.strip_prefix("all ") {
         Some(ops) => {
@@ -89,6 +97,15 @@ fn request_of(alloc: Global, text: &str) -> Result<MetaOp, Fail>
         }
         None => put_one(&mut bytes, text)?,
     }
+    Ok(bytes)
+}
+
+/// The request of a text.
+fn request_of(alloc: Global, text: &str) -> Result<MetaOp, Fail>
+    ensures valid { IfOk result IsRequest }
+    ensures allowed { IfOk result (IsAllowed (allows AllButConf)) }
+{
+    let bytes = spelling_of(alloc, text)?;
     let (op, _rest) = read_request(alloc, PathRule::AllButConf, &bytes)?;
     Ok(op)
 }
@@ -118,7 +135,21 @@ fn told(alloc: Global, reply: &Option<MetaReply>) -> Result<String, AllocError> 
     }
 }
 
-/// The reply to a request, as text.
+/// Whether a reply is the one that is wanted: an answer by its bytes, after the word `bytes`, or a reply as text.
+fn is_reply(alloc: Global, reply: &Option<MetaReply>, wanted: &str) -> Result<bool, Fail> {
+    match wanted.strip_prefix("bytes ") {
+        Some(text) => {
+            let bytes = bytes_of(alloc, text)?;
+            let (wanted, _rest) = read_answer(alloc, &bytes)?;
+            let reply = format!(in alloc; "{reply:?}")?;
+            let wanted = format!(in alloc; "Some(Answer({wanted:?}))")?;
+            Ok(reply == wanted)
+        }
+        None => Ok(told(alloc, reply)?.as_str() == wanted),
+    }
+}
+
+/// Whether the reply to a request is the one that is wanted.
 fn served(
     alloc: Global,
     depot: &mut MemDepot,
@@ -126,14 +157,14 @@ fn served(
     session: u64,
     number: u32,
     text: &str,
-) -> Result<String, Fail>
+    wanted: &str,
+) -> Result<bool, Fail>
     requires { Stands (view_by depot.old) store.old.journal }
     ensures { Stands (view_by depot.new) store.new.journal }
 {
     let op = request_of(alloc, text)?;
     let reply = store.serve(depot, session, number, &op)?;
-    let text = told(alloc, &reply)?;
-    Ok(text)
+    is_reply(alloc, &reply, wanted)
 }
 
 /// Whether the call of a row answers as the row says, with so many writing calls. A row is `connect => SESSION`, `end SESSION =>
@@ -160,8 +191,7 @@ fn row_holds(
     let (number, text) = rest.split_once(' ').unwrap_or((rest, ""));
     let session = first.parse().unwrap_or(0);
     let number = number.parse().unwrap_or(0);
-    let reply = served(alloc, depot, store, session, number, text)?;
-    Ok(reply.as_str() == wanted)
+    served(alloc, depot, store, session, number, text, wanted)
 }
 
 #[test]
@@ -230,13 +260,19 @@ fn a_stop_leaves_the_request_or_not(rt: HostRuntime) -> Result<(), Fail> {
         assert_eq!(rt; store.connect(&mut depot), Err(MetaFault::Failed));
         assert!(rt; depot.revive(file()));
         let mut store = loaded(alloc, &mut depot)?;
-        let reply = served(alloc, &mut depot, &mut store, 1, 1, "create /streams/s")?;
-        assert_eq!(rt;
-            reply.as_str() == "none",
-            is_left,
+        let wanted = if is_left { "none" } else { "made /streams/s" };
+        assert!(rt;
+            served(
+                alloc,
+                &mut depot,
+                &mut store,
+                1,
+                1,
+                "create /streams/s",
+                wanted
+            )?,
             "stopped in call {call}, {outcome:?}"
         );
-        assert_eq!(rt; reply.as_str() == "made /streams/s", !is_left);
     }
     Ok(())
 }
@@ -261,113 +297,40 @@ fn found(alloc: Global, bytes: &[u8]) -> Result<u64, Fail> {
     }
 }
 
+/// The same, with another byte at a place.
+fn found_with(alloc: Global, file: &[u8], at: usize, byte: u8) -> Result<u64, Fail> {
+    let mut bytes = Vec::new(alloc);
+    bytes.extend_from_slice(file)?;
+    if let Some(place) = bytes.get_mut(at) {
+        *place = byte;
+    }
+    found(alloc, &bytes)
+}
+
+/// Whether a load finds what a row says of a byte.
+fn finds(alloc: Global, file: &[u8], at: usize, row: &str) -> Result<bool, Fail> {
+    let (cut, rest) = row.split_once(' ').unwrap_or((row, ""));
+    let (turned, raised) = rest.split_once(' ').unwrap_or((rest, ""));
+    let byte = file.get(at).copied().unwrap_or(0);
+    let left = found(alloc, file.get(..at).unwrap_or(b""))?;
+    let other = found_with(alloc, file, at, !byte)?;
+    let higher = found_with(alloc, file, at, byte.wrapping_add(1))?;
+    Ok(
+        left == cut.parse().unwrap_or(0)
+            && other == turned.parse().unwrap_or(0)
+            && higher == raised.parse().unwrap_or(0),
+    )
+}
+
 #[test]
 fn damage_has_its_place(rt: HostRuntime) -> Result<(), Fail> {
     let alloc = rt.alloc();
-    assert_eq!(rt; found(alloc, &FILE)?, 61_102);
-    for (i, left) in CUT.iter().enumerate() {
-        assert_eq!(rt;
-            found(alloc, FILE.get(..i).unwrap_or(b""))?,
-            u64::from(*left),
-            "{i} are left"
-        );
-    }
-    for (i, (turned, raised)) in TURNED.iter().zip(&RAISED).enumerate() {
-        let mut bytes = FILE;
-        if let Some(byte) = bytes.get_mut(i) {
-            *byte = !*byte;
-        }
-        assert_eq!(rt;
-            found(alloc, &bytes)?,
-            u64::from(*turned),
-            "byte {i} is turned"
-        );
-        if let Some(byte) = bytes.get_mut(i) {
-            *byte = (!*byte).wrapping_add(1);
-        }
-        assert_eq!(rt;
-            found(alloc, &bytes)?,
-            u64::from(*raised),
-            "byte {i} is raised"
-        );
+    let file = bytes_of(alloc, FILE)?;
+    assert_eq!(rt; found(alloc, &file)?, 61_102);
+    for (at, row) in FOUND.split('\n').enumerate() {
+        assert!(rt; finds(alloc, &file, at, row)?, "byte {at}: {row}");
     }
     Ok(())
-}
-
-/// A number of two bytes, and what is behind it.
-fn number_at(rows: &[u8], at: usize) -> usize {
-    let high = rows.get(at).copied().unwrap_or(0);
-    let low = rows.get(at.saturating_add(1)).copied().unwrap_or(0);
-    usize::from(high) * 256 + usize::from(low)
-}
-
-/// One row of the random requests: a verb, a session, a number, the bytes of a request, and those of its reply.
-#[derive(Clone, Copy)]
-struct Row<'a> {
-    verb: u8,
-    session: u64,
-    number: u32,
-    op: &'a [u8],
-    reply: &'a [u8],
-    /// Where the next row begins.
-    end: usize,
-}
-
-/// The row that begins at this place, where there is one.
-fn row_at(rows: &[u8], at: usize) -> Option<Row<'_>> {
-    let verb = rows.get(at).copied()?;
-    let session = get_u64(rows, at.saturating_add(1)).ok()?;
-    let number = get_u32(rows, at.saturating_add(9)).ok()?;
-    let op = at.saturating_add(15);
-    let between = op.saturating_add(number_at(rows, at.saturating_add(13)));
-    let reply = between.saturating_add(2);
-    let end = reply.saturating_add(number_at(rows, between));
-    Some(Row {
-        verb,
-        session,
-        number,
-        op: rows.get(op..between)?,
-        reply: rows.get(reply..end)?,
-        end,
-    })
-}
-
-/// Whether a reply is the one that is wanted: 0 for an expired session, 1 for none, or 2 and the answer.
-fn is_reply(alloc: Global, reply: &Option<MetaReply>, wanted: &[u8]) -> Result<bool, Fail> {
-    match wanted {
-        [0] => Ok(matches!(reply, Some(MetaReply::Expired))),
-        [1] => Ok(reply.is_none()),
-        [2, answer @ ..] => {
-            let (wanted, _rest) = read_answer(alloc, answer)?;
-            let reply = format!(in alloc; "{reply:?}")?;
-            let wanted = format!(in alloc; "Some(Answer({wanted:?}))")?;
-            Ok(reply == wanted)
-        }
-        _ => Ok(false),
-    }
-}
-
-/// Whether a row's call gives what the row says.
-fn holds(
-    alloc: Global,
-    depot: &mut MemDepot,
-    store: &mut MetaStore,
-    row: &Row<'_>,
-) -> Result<bool, Fail>
-    requires { Stands (view_by depot.old) store.old.journal }
-    ensures { Stands (view_by depot.new) store.new.journal }
-{
-    if row.verb == 1 {
-        let session = store.connect(depot)?;
-        return Ok(session == row.session);
-    }
-    if row.verb == 2 {
-        let was_live = store.expire(depot, row.session)?;
-        return Ok(was_live == (row.reply == [1].as_slice()));
-    }
-    let (op, _rest) = read_request(alloc, PathRule::AllButConf, row.op)?;
-    let reply = store.serve(depot, row.session, row.number, &op)?;
-    is_reply(alloc, &reply, row.reply)
 }
 
 #[test]
@@ -375,20 +338,11 @@ fn random_requests_are_served(rt: HostRuntime) -> Result<(), Fail> {
     let alloc = rt.alloc();
     let mut depot = MemDepot::new(alloc)?;
     let mut store = MetaStore::make(alloc, &mut depot, conf())?;
-    let mut at = 0usize;
-    for count in 0..1000u32 {
-        let Some(row) = row_at(&ROWS, at) else {
-            break;
-        };
-        assert!(rt;
-            holds(alloc, &mut depot, &mut store, &row)?,
-            "the row at {at}"
-        );
+    for (count, row) in ROWS.split('\n').enumerate() {
+        assert!(rt; row_holds(alloc, &mut depot, &mut store, row)?, "{row}");
         if count % 7 == 0 {
             store = loaded(alloc, &mut depot)?;
         }
-        at = row.end;
     }
-    assert_eq!(rt; at, ROWS.len());
     Ok(())
 }
