@@ -143,7 +143,7 @@ impl Bookie {
         requires frame { FRAME ≤ vec_capacity room.frame }
         ensures { result ≡ record {
           journal = journal;
-          pool = nothing_held pool_pages;
+          pool = empty_pool pool_pages;
           entries = entries;
           ledgers = ledgers;
           queue = [];
