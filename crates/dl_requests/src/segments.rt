@@ -1,9 +1,6 @@
 //! Requests on the nodes of a stream's segments.
 
-ghost use Rattle.std.specs.Prelude.{◌≡◌, ◌≤◌, IfOk};
-ghost use Rattle.dl_formats.specs.NodeBytes.{ten_nines};
-ghost use Rattle.dl_formats.specs.declared.segment_name.SegmentName.{SegmentName};
-ghost use Rattle.dl_rules_stream.specs.Listings.{number_of};
+ghost use Rattle.std.specs.Prelude.{◌≡◌, IfOk};
 ghost use Rattle.dl_rules_stream.specs.Requests.{GetSegment, DropSegment, segment_key, op_of};
 
 use crate::build::multi;
@@ -18,7 +15,6 @@ use std::alloc::Global;
 /// The request that reads the node of a segment, by its name.
 #[tactic(auto, unfolding(dl_rules_stream::specs::Requests::op_of))]
 pub fn get_segment(alloc: Global, stream: &Name, segment: SegmentName) -> Result<MetaOp, NoMemory>
-    requires { number_of segment ≤ ten_nines }
     ensures { IfOk result (λ op. op ≡ op_of (GetSegment stream.now segment)) }
 {
     match segment {
@@ -41,8 +37,6 @@ pub fn drop_segment(
     segment: u64,
     ledger: u64,
 ) -> Result<MetaOp, NoMemory>
-    requires segment { segment ≤ ten_nines }
-    requires ledger { ledger ≤ ten_nines }
     ensures { IfOk result (λ op. op ≡ op_of (DropSegment stream.now segment ledger)) }
 {
     let mut ops = Vec::new(alloc);
