@@ -1,5 +1,6 @@
 -- A stable sort of segments by their numbers is what the rules make of them.
-use Rattle.std.proofs.Common.{◌≡◌, ℕ, suc, ◌<◌, ◌≤◌, Bool, true, false, not, ◌&&◌, nat_lt, if◌then◌else◌, List, [], ◌∷◌, ◌++◌, length, get_or, filter, flat_map, option_to_list, Option, Some, None, IfSome, refl, sym, ap, subst, ◌∙◌, arith}
+use Rattle.std.proofs.Common.{◌≡◌, ℕ, suc, ◌<◌, ◌≤◌, Bool, true, false, not, ◌&&◌, nat_lt, if◌then◌else◌, List, [], ◌∷◌}
+use Rattle.std.proofs.Common.{◌++◌, length, get_or, filter, flat_map, option_to_list, Option, Some, None, IfSome, refl, sym, ap, subst, ◌∙◌, arith}
 use Rattle.std.specs.Ordering.{nat_cmp, is_lt}
 use Rattle.std.specs.List.Sorted.{ties, IsNonDecreasingBy, IsStableByKey}
 use Rattle.std.proofs.lemmas.Bool.Decides.{nat_tests}
@@ -27,16 +28,19 @@ Rise (x ∷ xs) = AreFrom (number_of x) xs × Rise xs
 
 -- ---- ties
 
--- tests that decide as numbers do
+-- equal numbers tie
 tie_of : (a b : ℕ) → a ≡ b → (not (is_lt (nat_cmp a b)) && not (is_lt (nat_cmp b a))) ≡ true
 tie_of a b e = grind (arith, nat_tests)
 
+-- a lesser number has no tie with a greater one
 tie_below : (a b : ℕ) → a < b → (not (is_lt (nat_cmp a b)) && not (is_lt (nat_cmp b a))) ≡ false
 tie_below a b lt = grind (arith, nat_tests)
 
+-- nor a greater one with a lesser
 tie_above : (a b : ℕ) → b < a → (not (is_lt (nat_cmp a b)) && not (is_lt (nat_cmp b a))) ≡ false
 tie_above a b lt = grind (arith, nat_tests)
 
+-- numbers that tie are equal
 tied : (a b : ℕ) → (not (is_lt (nat_cmp a b)) && not (is_lt (nat_cmp b a))) ≡ true → a ≡ b
 tied a b e = grind (arith, nat_tests)
 
@@ -47,10 +51,12 @@ none_tie w k (x ∷ xs) lt from = rw (tie_below (number_of w) (number_of x) (ome
 
 -- ---- one segment more
 
+-- what is at least the greater is at least the lesser
 from_less : (j k : ℕ) (xs : List SegmentName) → j ≤ k → AreFrom k xs → AreFrom j xs
 from_less j k [] le from = tt
 from_less j k (x ∷ xs) le from = (omega (arith, le, from.0), from_less j k xs le from.1)
 
+-- with one more that is at least it, all are
 placed_from : (k : ℕ) (x : SegmentName) (ys : List SegmentName) → k ≤ number_of x → AreFrom k ys → AreFrom k (placed x ys)
 placed_from k x [] le from = (le, tt)
 placed_from k x (y ∷ ys) le from = go (nat_lt (number_of x) (number_of y)) (placed_from k x ys le from.1)
@@ -94,10 +100,12 @@ placed_ties w x (y ∷ ys) rise = go (nat_lt (number_of x) (number_of y)) refl (
 
 -- ---- all of them
 
+-- what the rules make rises
 sorted_rises : (ys xs : List SegmentName) → Rise ys → Rise (sorted_into ys xs)
 sorted_rises ys [] rise = rise
 sorted_rises ys (x ∷ xs) rise = sorted_rises (placed x ys) xs (placed_rises x ys rise)
 
+-- the ties of the first, and of the others
 one_more : (w x : SegmentName) (xs : List SegmentName) → filter (tie w) (x ∷ []) ++ filter (tie w) xs ≡ filter (tie w) (x ∷ xs)
 one_more w x xs = go (tie w x) refl
   where
@@ -161,10 +169,12 @@ one_list (x ∷ xs) (y ∷ ys) up rise same =
 
 -- ---- from the sort
 
+-- each by its place
 from_index : (k : ℕ) (xs : List SegmentName) → ((j : ℕ) (d : SegmentName) → j < length xs → k ≤ number_of (get_or xs j d)) → AreFrom k xs
 from_index k [] h = tt
 from_index k (x ∷ xs) h = (h 0 x (omega arith), from_index k xs (λ j d lt. h (suc j) d (omega (arith, lt))))
 
+-- numbers that don't fall by places rise
 rise_from : (xs : List SegmentName) → IsNonDecreasingBy number_of xs → Rise xs
 rise_from [] h = tt
 rise_from (x ∷ xs) h = (
@@ -184,10 +194,12 @@ abbrev AreShort : List SegmentName → Type 0
 AreShort [] = Unit {0}
 AreShort (x ∷ xs) = (number_of x ≤ ten_nines) × AreShort xs
 
+-- the number in a segment's name has ten digits
 short_name : (x : SegmentName) → IsSegmentName x → number_of x ≤ ten_nines
 short_name (Progress k) is = omega (arith, is.1)
 short_name (Completed k) is = omega (arith, is.1)
 
+-- so have those of the names of a listing
 named_short : (names : List (List ℕ)) → AreShort (flat_map (λ name. option_to_list (segment_in name)) names)
 named_short [] = tt
 named_short (name ∷ names) = go (segment_in name) refl (named_short names)
@@ -197,6 +209,7 @@ named_short (name ∷ names) = go (segment_in name) refl (named_short names)
     go None e rest = rest
     go (Some x) e rest = (short_name x (names_are_read.segment_found name x e).0, rest)
 
+-- one more of ten digits
 placed_short : (x : SegmentName) (ys : List SegmentName) → number_of x ≤ ten_nines → AreShort ys → AreShort (placed x ys)
 placed_short x [] le short = (le, tt)
 placed_short x (y ∷ ys) le short = go (nat_lt (number_of x) (number_of y)) (placed_short x ys le short.1)
@@ -205,10 +218,12 @@ placed_short x (y ∷ ys) le short = go (nat_lt (number_of x) (number_of y)) (pl
     go true rest = (le, short)
     go false rest = (short.0, rest)
 
+-- all of them, sorted
 sorted_short : (ys xs : List SegmentName) → AreShort ys → AreShort xs → AreShort (sorted_into ys xs)
 sorted_short ys [] short more = short
 sorted_short ys (x ∷ xs) short more = sorted_short (placed x ys) xs (placed_short x ys more.0 short) more.1
 
+-- and the last of them
 last_of_short : (xs : List SegmentName) → AreShort xs → IfSome (last_segment xs) (λ x. number_of x ≤ ten_nines)
 last_of_short [] short = tt
 last_of_short (x ∷ []) short = short.0
@@ -226,6 +241,7 @@ abbrev pub last_or : Option SegmentName → List SegmentName → Option SegmentN
 last_or last [] = last
 last_or last (x ∷ xs) = last_or (Some x) xs
 
+-- the last of some is that of the list with one before them
 last_behind : (x : SegmentName) (xs : List SegmentName) → last_or (Some x) xs ≡ last_segment (x ∷ xs)
 last_behind x [] = refl
 last_behind x (y ∷ ys) = last_behind y ys

@@ -194,7 +194,8 @@ fn after_getting(
 ) -> Result<Step, NoMemory>
     ensures { IfOk result (λ step. (left : List SegmentName) (count : ℕ)
         → step_answer stream.now left count (rule.GettingSegment segment left count) step
-        ≡ answer_of (purge_answers stream.now (rule.GettingSegment segment left count) answer.now)) }
+        ≡ answer_of (purge_answers stream.now (rule.GettingSegment segment left count)
+        answer.now)) }
 {
     match answer {
         MetaAnswer::One(OneAnswer::Bytes { bytes, .. }) => {
@@ -242,7 +243,8 @@ fn after_dropping(
 ) -> Result<Step, NoMemory>
     ensures { IfOk result (λ step. (left : List SegmentName) (count : ℕ)
         → step_answer stream.now left count (rule.Dropping segment ledger left count) step
-        ≡ answer_of (purge_answers stream.now (rule.Dropping segment ledger left count) answer.now)) }
+        ≡ answer_of (purge_answers stream.now (rule.Dropping segment ledger left count)
+        answer.now)) }
 {
     match answer {
         MetaAnswer::Failed { place, why } => {

@@ -59,7 +59,8 @@ fn within_bounds(
     point: Dlsn,
     end: Dlsn,
 ) -> Result<TruncateMove, NoMemory>
-    ensures { IfOk result (λ move. (stage : rule.TruncateStage) → move_of truncate_stage_of stage move
+    ensures { IfOk result (λ move. (stage : rule.TruncateStage)
+        → move_of truncate_stage_of stage move
         ≡ answer_of (within_bounds (given_of stream.now place) version (bounds_with point end))) }
 {
     if !point.is_before(place) {
@@ -82,7 +83,8 @@ fn after_look(
     version: u64,
     maxseq: &[u8],
 ) -> Result<TruncateMove, NoMemory>
-    ensures { IfOk result (λ move. (stage : rule.TruncateStage) → move_of truncate_stage_of stage move
+    ensures { IfOk result (λ move. (stage : rule.TruncateStage)
+        → move_of truncate_stage_of stage move
         ≡ answer_of (or_refused TruncateDone (within_bounds (given_of stream.now place) version)
         (bounds_of stream.now names.now cut.now maxseq.now))) }
 {
@@ -109,7 +111,8 @@ fn after_failed_look(
     why: Why,
 ) -> Result<TruncateMove, NoMemory>
     ensures { IfOk result (λ move. move_of truncate_stage_of LookingAtCut move
-        ≡ answer_of (truncate_answers (given_of stream.now place) LookingAtCut (answer.Failed at why))) }
+        ≡ answer_of (truncate_answers (given_of stream.now place) LookingAtCut
+        (answer.Failed at why))) }
 {
     match why {
         Why::NoNode => Ok(refused(TruncateStage::Over, Refusal::NoStream)),
@@ -132,7 +135,8 @@ fn after_many(
     answers: &[OneAnswer],
 ) -> Result<TruncateMove, NoMemory>
     ensures { IfOk result (λ move. move_of truncate_stage_of LookingAtCut move
-        ≡ answer_of (truncate_answers (given_of stream.now place) LookingAtCut (answer.Many answers.now))) }
+        ≡ answer_of (truncate_answers (given_of stream.now place) LookingAtCut
+        (answer.Many answers.now))) }
 {
     match answers {
         [
@@ -180,7 +184,8 @@ fn after_setting(
     answer: &MetaAnswer,
 ) -> Result<TruncateMove, NoMemory>
     ensures { IfOk result (λ move. move_of truncate_stage_of (SettingCut version) move
-        ≡ answer_of (truncate_answers (given_of stream.now place) (SettingCut version) answer.now)) }
+        ≡ answer_of (truncate_answers (given_of stream.now place) (SettingCut version)
+        answer.now)) }
 {
     match answer {
         MetaAnswer::Failed { place: at, why } => {
@@ -200,7 +205,8 @@ pub(crate) fn after_answer(
     stage: &TruncateStage,
     answer: &MetaAnswer,
 ) -> Result<TruncateMove, NoMemory>
-    ensures { let at = truncate_stage_of stage.now in IfOk result (λ move. move_of truncate_stage_of at move
+    ensures { let at = truncate_stage_of stage.now in IfOk result (λ move.
+        move_of truncate_stage_of at move
         ≡ answer_of (truncate_answers (given_of stream.now place) at answer.now)) }
 {
     match stage {
