@@ -1,11 +1,11 @@
-//! Writers of the bytes of nodes: each gives the one spelling of a value that has one.
+//! Writers of the bytes of nodes: each gives the layout of every value, which is the one spelling of a value that has one. No
+//! reader takes the bytes of another value.
 
 ghost use Rattle.std.specs.Prelude.{◌≡◌, ◌++◌, IfOk};
 ghost use Rattle.std.specs.Int.{w8, w64};
 ghost use Rattle.dl_codec.specs.Fields.{field};
-ghost use Rattle.dl_formats.specs.NodeBytes.{state_code, conf_bytes, IsConf, ledger_bytes};
-ghost use Rattle.dl_formats.specs.NodeBytes.{IsLedgerMeta, segment_bytes, IsSegmentMeta, maxseq_bytes};
-ghost use Rattle.dl_formats.specs.NodeBytes.{IsMaxSeq, cut_bytes, IsCut, alloc_bytes, IsAlloc};
+ghost use Rattle.dl_formats.specs.NodeBytes.{state_code, conf_bytes, ledger_bytes, segment_bytes};
+ghost use Rattle.dl_formats.specs.NodeBytes.{maxseq_bytes, cut_bytes, alloc_bytes};
 
 use crate::allocation::Alloc;
 use crate::conf::Conf;
@@ -19,7 +19,6 @@ use std::alloc::Global;
 
 /// The bytes of `/conf`.
 pub fn encode_conf(alloc: Global, value: &Conf) -> Result<Vec<u8>, NoMemory>
-    requires { IsConf value.now }
     ensures { IfOk result (λ bytes. bytes.items ≡ conf_bytes value.now) }
 {
     let mut out = Vec::new(alloc);
@@ -44,7 +43,6 @@ fn state_code(state: LedgerState) -> u8
 
 /// The bytes of a ledger's node.
 pub fn encode_ledger(alloc: Global, value: &LedgerMeta) -> Result<Vec<u8>, NoMemory>
-    requires { IsLedgerMeta value.now }
     ensures { IfOk result (λ bytes. bytes.items ≡ ledger_bytes value.now) }
 {
     let mut out = Vec::new(alloc);
@@ -72,7 +70,6 @@ fn segment_head(alloc: Global, kind: u8, segment: u64, ledger: u64) -> Result<Ve
 
 /// The bytes of a segment's node.
 pub fn encode_segment(alloc: Global, value: &SegmentMeta) -> Result<Vec<u8>, NoMemory>
-    requires { IsSegmentMeta value.now }
     ensures { IfOk result (λ bytes. bytes.items ≡ segment_bytes value.now) }
 {
     match value {
@@ -95,7 +92,6 @@ pub fn encode_segment(alloc: Global, value: &SegmentMeta) -> Result<Vec<u8>, NoM
 
 /// The bytes of a stream's node `maxseq`.
 pub fn encode_maxseq(alloc: Global, value: &MaxSeq) -> Result<Vec<u8>, NoMemory>
-    requires { IsMaxSeq value.now }
     ensures { IfOk result (λ bytes. bytes.items ≡ maxseq_bytes value.now) }
 {
     let mut out = Vec::new(alloc);
@@ -107,7 +103,6 @@ pub fn encode_maxseq(alloc: Global, value: &MaxSeq) -> Result<Vec<u8>, NoMemory>
 
 /// The bytes of a stream's node `cut`.
 pub fn encode_cut(alloc: Global, value: &Cut) -> Result<Vec<u8>, NoMemory>
-    requires { IsCut value.now }
     ensures { IfOk result (λ bytes. bytes.items ≡ cut_bytes value.now) }
 {
     let mut out = Vec::new(alloc);
@@ -120,7 +115,6 @@ pub fn encode_cut(alloc: Global, value: &Cut) -> Result<Vec<u8>, NoMemory>
 
 /// The bytes of a stream's node `alloc`.
 pub fn encode_alloc(alloc: Global, value: &Alloc) -> Result<Vec<u8>, NoMemory>
-    requires { IsAlloc value.now }
     ensures { IfOk result (λ bytes. bytes.items ≡ alloc_bytes value.now) }
 {
     let mut out = Vec::new(alloc);

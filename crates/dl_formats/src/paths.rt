@@ -1,6 +1,6 @@
-//! The paths of nodes, from what they are for.
+//! The paths of nodes, from what they are for. A number is put by its last ten digits; no ledger or segment has more.
 
-ghost use Rattle.std.specs.Prelude.{◌≡◌, ◌≤◌, ◌++◌, IfOk};
+ghost use Rattle.std.specs.Prelude.{◌≡◌, ◌++◌, IfOk};
 ghost use Rattle.dl_fields.specs.Digits.{digits};
 ghost use Rattle.dl_formats.specs.Keys.{Conf, Ledger, Stream, MaxSeq, Cut, Alloc, Locks, Segs};
 ghost use Rattle.dl_formats.specs.Keys.{Progress, Completed, path_of, ledger_stem, member_stem};
@@ -56,7 +56,6 @@ pub fn ledger_stem(alloc: Global) -> Result<Path, NoMemory>
 
 /// The path of a ledger's metadata.
 pub fn ledger_path(alloc: Global, ledger: u64) -> Result<Path, NoMemory>
-    requires { ledger ≤ 9999999999 }
     ensures { IfOk result (λ path. path ≡ path_of (Ledger ledger)) }
 {
     let mut bytes = Vec::new(alloc);
@@ -116,7 +115,6 @@ pub fn alloc_path(alloc: Global, stream: &Name) -> Result<Path, NoMemory>
 
 /// The path of a stream's segment while it is in progress.
 pub fn progress_path(alloc: Global, stream: &Name, segment: u64) -> Result<Path, NoMemory>
-    requires { segment ≤ 9999999999 }
     ensures { IfOk result (λ path. path ≡ path_of (Progress stream.now segment)) }
 {
     numbered_path(alloc, stream, b"/segs/p", segment)
@@ -124,7 +122,6 @@ pub fn progress_path(alloc: Global, stream: &Name, segment: u64) -> Result<Path,
 
 /// The path of a stream's segment once it is complete.
 pub fn completed_path(alloc: Global, stream: &Name, segment: u64) -> Result<Path, NoMemory>
-    requires { segment ≤ 9999999999 }
     ensures { IfOk result (λ path. path ≡ path_of (Completed stream.now segment)) }
 {
     numbered_path(alloc, stream, b"/segs/c", segment)

@@ -2,23 +2,18 @@
 
 ghost use Rattle.std.specs.Prelude.{◌≡◌, ℕ, List, IfOk};
 ghost use Rattle.dl_types.specs.declared.meta_answer.MetaAnswer.TheVariants as answer;
-ghost use Rattle.dl_msg.specs.declared.turn.Turn.TheVariants as turn;
-ghost use Rattle.dl_rules_stream.specs.Locks.{LockStage, MakingMember, ListingMembers, LeavingLock, lock_or_leave, lock_answers};
-ghost use Rattle.dl_requests.specs.declared.moves.Move.TheVariants.{Goes};
+ghost use Rattle.dl_rules_stream.specs.Locks.{LockStage, MakingMember, ListingMembers, LeavingLock};
+ghost use Rattle.dl_rules_stream.specs.Locks.{lock_or_leave, lock_answers};
 ghost use Rattle.dl_requests.specs.Turns.{answer_of, move_of};
-ghost use Rattle.dl_lock.specs.declared.stage.Stage.TheVariants.{Over};
 ghost use Rattle.dl_lock.specs.Standing.{lock_stage_of};
 
 use crate::names::least_of;
 use crate::stage::Stage;
-use dl_msg::turn::Turn;
 use dl_requests::members::{leave_lock, list_members, make_member};
-use dl_requests::moves::Move;
+use dl_requests::moves::{Move, asks, done, gives_up, refused};
 use dl_requests::numbers::number_behind;
-use dl_requests::refusals::no_way_on;
 use dl_types::memory::NoMemory;
 use dl_types::meta_answer::MetaAnswer;
-use dl_types::meta_op::MetaOp;
 use dl_types::name::Name;
 use dl_types::one_answer::OneAnswer;
 use dl_types::path::Path;
@@ -28,20 +23,6 @@ use std::alloc::Global;
 
 /// Where the task goes from a stage.
 type LockMove = Move<Stage, Path>;
-
-/// It is refused.
-fn refused(refusal: Refusal) -> LockMove
-    ensures { result ≡ Goes Over (turn.Refused refusal) }
-{
-    Move::Goes(Stage::Over, Turn::Refused(refusal))
-}
-
-/// It asks for a request, and waits at this stage for its answer.
-fn asks(stage: Stage, request: MetaOp) -> LockMove
-    ensures { result ≡ Goes stage (turn.Ask request) }
-{
-    Move::Goes(stage, Turn::Ask(request))
-}
 
 /// The making of its member failed: the stream isn't there, or there is no way on.
 #[tactic(auto, using(crate::proofs::Failures::failed_making), unfolding(dl_rules_stream::specs::Locks::lock_answers))]
@@ -55,10 +36,10 @@ fn after_failed_making(
         ≡ answer_of (lock_answers stream.now MakingMember (answer.Failed place why))) }
 {
     match why {
-        Why::NoNode => Ok(refused(Refusal::NoStream)),
+        Why::NoNode => Ok(refused(Stage::Over, Refusal::NoStream)),
         _ => {
             let request = make_member(alloc, stream)?;
-            Ok(refused(no_way_on(alloc, request, place, why)?))
+            gives_up(alloc, Stage::Over, request, place, why)
         }
     }
 }
@@ -89,7 +70,7 @@ fn settle(member: &Path, least: u64) -> Result<LockMove, NoMemory>
         let request = leave_lock(&member)?;
         Ok(asks(Stage::Leaving { member, least }, request))
     } else {
-        Ok(Move::Goes(Stage::Over, Turn::Done(member)))
+        Ok(done(Stage::Over, member))
     }
 }
 
@@ -111,7 +92,7 @@ fn after_listing(
         }
         MetaAnswer::Failed { place, why } => {
             let request = list_members(alloc, stream)?;
-            Ok(refused(no_way_on(alloc, request, *place, *why)?))
+            gives_up(alloc, Stage::Over, request, *place, *why)
         }
         _ => Ok(Move::Stays),
     }
@@ -125,15 +106,16 @@ fn after_leaving(
     least: u64,
     answer: &MetaAnswer,
 ) -> Result<LockMove, NoMemory>
-    ensures { (stream : List ℕ) → IfOk result (λ move. move_of lock_stage_of (LeavingLock member.now least) move
+    ensures { (stream : List ℕ) → IfOk result (λ move.
+        move_of lock_stage_of (LeavingLock member.now least) move
         ≡ answer_of (lock_answers stream (LeavingLock member.now least) answer.now)) }
 {
     match answer {
         MetaAnswer::Failed { place, why } => {
             let request = leave_lock(member)?;
-            Ok(refused(no_way_on(alloc, request, *place, *why)?))
+            gives_up(alloc, Stage::Over, request, *place, *why)
         }
-        _ => Ok(refused(Refusal::Held { member: least })),
+        _ => Ok(refused(Stage::Over, Refusal::Held { member: least })),
     }
 }
 

@@ -1,8 +1,9 @@
 ghost use Rattle.std.specs.Prelude.{◌≡◌, ℕ, List, IfOk, OnErr};
 ghost use Rattle.dl_msg.specs.declared.heard.Heard.{Heard};
 ghost use Rattle.dl_rules_stream.specs.Locks.{LockStage, lock_first, lock_hears};
+ghost use Rattle.dl_requests.specs.Tasks.{View, new_view, GoesBy, Hears};
 ghost use Rattle.dl_requests.specs.Turns.{turn_of};
-ghost use Rattle.dl_lock.specs.Standing.{LockView, new_view, StandsAt, StandsFor, GoesBy, Hears};
+ghost use Rattle.dl_lock.specs.Standing.{lock_order, StandsAt, StandsFor};
 
 use crate::answers::after_answer;
 use crate::stage::Stage;
@@ -58,9 +59,9 @@ impl Lock {
     pub fn hear(&mut self, heard: &Heard) -> Result<Turn<Path>, NoMemory>
         ensures goes { IfOk result (λ turn. (stream : List ℕ) (stage : LockStage)
             → StandsAt stream stage self.old
-            → GoesBy stream (lock_hears stream stage heard.now) turn self.new) }
-        ensures view { IfOk result (λ turn. (v : LockView) → StandsFor v self.old
-            → Hears v heard.now turn self.new) }
+            → GoesBy (StandsAt stream) (lock_hears stream stage heard.now) turn self.new) }
+        ensures view { IfOk result (λ turn. (v : View (List ℕ)) → StandsFor v self.old
+            → Hears lock_order StandsFor v heard.now turn self.new) }
         ensures kept { OnErr result (self.new ≡ self.old) }
     {
         let Heard::Reply(answer) = heard else {

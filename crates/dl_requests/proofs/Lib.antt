@@ -1,2 +1,4 @@
+pub mod ListingLemmas
 pub mod NumberLemmas
 pub mod PathLemmas
+pub mod ReadLemmas

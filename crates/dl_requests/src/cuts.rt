@@ -3,7 +3,6 @@
 ghost use Rattle.std.specs.Prelude.{◌≡◌, ◌∷◌, [], IfOk};
 ghost use Rattle.dl_types.specs.declared.one_op.OneOp.TheVariants.{Children, Get};
 ghost use Rattle.dl_formats.specs.Keys as key;
-ghost use Rattle.dl_formats.specs.NodeBytes.{IsCut};
 ghost use Rattle.dl_rules_stream.specs.Requests.{ListCut, LookCut, SetCut, op_of};
 
 use crate::build::{multi, set};
@@ -56,7 +55,6 @@ pub fn look_cut(alloc: Global, stream: &Name) -> Result<MetaOp, NoMemory>
 /// The request that sets a stream's point, where its node has this version.
 #[tactic(auto, unfolding(dl_rules_stream::specs::Requests::op_of))]
 pub fn set_cut(alloc: Global, stream: &Name, point: Dlsn, version: u64) -> Result<MetaOp, NoMemory>
-    requires { IsCut (record { point = point }) }
     ensures { IfOk result (λ op. op ≡ op_of (SetCut stream.now point version)) }
 {
     let path = cut_path(alloc, stream)?;

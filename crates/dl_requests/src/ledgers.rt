@@ -1,8 +1,7 @@
 //! Requests on ledgers: their making, and their place in a stream's node `alloc`.
 
-ghost use Rattle.std.specs.Prelude.{◌≡◌, ◌≤◌, ℕ, IfOk, IfSome, Option};
+ghost use Rattle.std.specs.Prelude.{◌≡◌, ℕ, IfOk, IfSome, Option};
 ghost use Rattle.dl_quorum.specs.Sizes.{sizes_of};
-ghost use Rattle.dl_formats.specs.NodeBytes.{IsAllocated, ten_nines};
 ghost use Rattle.dl_rules_stream.specs.Requests.{MakeLedger, TakeLedger, op_of};
 
 use crate::build::{create, multi, set};
@@ -46,8 +45,6 @@ pub fn take_ledger(
     version: u64,
     ledger: u64,
 ) -> Result<MetaOp, NoMemory>
-    requires old { IsAllocated old }
-    requires ledger { ledger ≤ ten_nines }
     ensures { IfOk result (λ op. op ≡ op_of (TakeLedger stream.now member.now old version ledger)) }
 {
     let mut ops = Vec::new(alloc);

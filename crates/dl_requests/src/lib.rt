@@ -5,8 +5,10 @@
 mod build;
 pub mod cuts;
 pub mod ledgers;
+pub mod listing;
 pub mod members;
 pub mod moves;
+pub mod nodes;
 pub mod numbers;
 pub mod refusals;
 pub mod segments;
