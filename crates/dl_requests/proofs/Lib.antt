@@ -1,2 +1,3 @@
+pub mod LedgerNodeLemmas
 pub mod NumberLemmas
 pub mod PathLemmas
