@@ -50,12 +50,7 @@ fn set_ledger(
 
 /// The request that marks the node of a ledger of this version: the ledger is being recovered.
 #[tactic(auto, unfolding(dl_rules_stream::specs::Requests::op_of))]
-pub fn mark_ledger(
-    alloc: Global,
-    ledger: u64,
-    q: Quorum,
-    version: u64,
-) -> Result<MetaOp, NoMemory>
+pub fn mark_ledger(alloc: Global, ledger: u64, q: Quorum, version: u64) -> Result<MetaOp, NoMemory>
     requires { ledger ≤ ten_nines }
     ensures { IfOk result (λ op. op ≡ op_of (MarkLedger ledger (sizes_of q) version)) }
 {
@@ -95,13 +90,7 @@ pub fn ledger_in(conf: &Conf, bytes: &[u8]) -> Option<LedgerMeta>
     ensures within { IfSome result (λ meta. meta.q.e ≤ conf.now.b) }
 {
     match decode_ledger(bytes) {
-        Ok(meta) => {
-            if meta.q.e <= conf.b {
-                Some(meta)
-            } else {
-                None
-            }
-        }
+        Ok(meta) => { if meta.q.e <= conf.b { Some(meta) } else { None } }
         Err(_) => None,
     }
 }
