@@ -1,4 +1,5 @@
 pub mod ListingLemmas
+pub mod LedgerNodeLemmas
 pub mod NumberLemmas
 pub mod PathLemmas
 pub mod ReadLemmas

@@ -4,6 +4,7 @@
 
 mod build;
 pub mod cuts;
+pub mod ledger_nodes;
 pub mod ledgers;
 pub mod listing;
 pub mod members;

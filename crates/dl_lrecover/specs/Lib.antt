@@ -1,0 +1,5 @@
+pub mod Facts
+pub mod Failures
+pub mod Finding
+pub mod Standing
+pub mod Views
