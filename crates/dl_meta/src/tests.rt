@@ -2,13 +2,15 @@
 mod requests;
 mod spoilt;
 
-ghost use Rattle.std.specs.Prelude.{◌≡◌, IfOk};
+ghost use Rattle.std.specs.Prelude.{◌≡◌, IfOk, OnOk};
 ghost use Rattle.dl_depot.specs.Memory.{view_by};
+ghost use Rattle.dl_journal.specs.Commits.{IsEmpty};
 ghost use Rattle.dl_journal.specs.Settled.{Stands};
 ghost use Rattle.dl_tree_msg.specs.declared.rule.PathRule.TheVariants.{AllButConf};
 ghost use Rattle.dl_tree_msg.specs.Rules.{allows};
 ghost use Rattle.dl_tree_msg.specs.Requests.{IsRequest, IsAllowed};
 ghost use Rattle.dl_formats.specs.NodeBytes.{IsConf};
+ghost use Rattle.dl_meta.specs.Standing.{meta_file};
 
 use crate::meta_fault::MetaFault;
 use crate::store::MetaStore;
@@ -48,6 +50,15 @@ fn conf() -> Conf
         qw: 3,
         qa: 2,
     }
+}
+
+/// A store that was just made.
+fn made(alloc: Global, depot: &mut MemDepot) -> Result<MetaStore, Fail>
+    requires { IsEmpty (view_by depot.old) meta_file }
+    ensures { IfOk result (λ store. Stands (view_by depot.new) store.journal) }
+{
+    let store = MetaStore::make(alloc, depot, conf())?;
+    Ok(store)
 }
 
 /// Adds an operation: `create PATH`, `ephemeral PATH`, `check PATH`, or `get PATH`.
@@ -194,30 +205,46 @@ fn row_holds(
     served(alloc, depot, store, session, number, text, wanted)
 }
 
+/// Whether the call of a row answers as the row says, with so many writing calls as stand before it.
+fn row_runs(
+    alloc: Global,
+    depot: &mut MemDepot,
+    store: &mut MetaStore,
+    row: &str,
+) -> Result<bool, Fail>
+    requires { Stands (view_by depot.old) store.old.journal }
+    ensures { Stands (view_by depot.new) store.new.journal }
+{
+    let (calls, row) = row.split_once(": ").unwrap_or((row, ""));
+    let before = depot.calls(file()).len();
+    let holds = row_holds(alloc, depot, store, row)?;
+    let made = depot.calls(file()).len().saturating_sub(before);
+    Ok(holds && made == calls.parse().unwrap_or(usize::MAX))
+}
+
+/// Calls of two sessions, each with the number of its writing calls.
+const CALLS: &str = "\
+4: connect => 1
+4: 1 1 create /streams/s => made /streams/s
+0: 1 1 create /streams/s => none
+4: 1 2 all create /streams/t; check /x => failed 1 NoNode
+4: 1 3 check /streams/t => failed 0 NoNode
+0: 2 1 get /conf => expired
+4: 1 4 ephemeral /streams/s/e => made /streams/s/e
+0: end 2 => false
+4: connect => 2
+4: end 1 => true
+0: 1 5 get /conf => expired
+4: 2 1 check /streams/s/e => failed 0 NoNode
+4: 2 2 all check /streams/s; get /conf => many 2";
+
 #[test]
 fn requests_run_once(rt: HostRuntime) -> Result<(), Fail> {
     let alloc = rt.alloc();
     let mut depot = MemDepot::new(alloc)?;
-    let mut store = MetaStore::make(alloc, &mut depot, conf())?;
-    for (calls, row) in [
-        (4, "connect => 1"),
-        (4, "1 1 create /streams/s => made /streams/s"),
-        (0, "1 1 create /streams/s => none"),
-        (4, "1 2 all create /streams/t; check /x => failed 1 NoNode"),
-        (4, "1 3 check /streams/t => failed 0 NoNode"),
-        (0, "2 1 get /conf => expired"),
-        (4, "1 4 ephemeral /streams/s/e => made /streams/s/e"),
-        (0, "end 2 => false"),
-        (4, "connect => 2"),
-        (4, "end 1 => true"),
-        (0, "1 5 get /conf => expired"),
-        (4, "2 1 check /streams/s/e => failed 0 NoNode"),
-        (4, "2 2 all check /streams/s; get /conf => many 2"),
-    ] {
-        let before = depot.calls(file()).len();
-        assert!(rt; row_holds(alloc, &mut depot, &mut store, row)?, "{row}");
-        let made = depot.calls(file()).len().saturating_sub(before);
-        assert_eq!(rt; made, calls, "{row}");
+    let mut store = made(alloc, &mut depot)?;
+    'rows: for row in CALLS.split('\n') {
+        assert!(rt; row_runs(alloc, &mut depot, &mut store, row)?, "{row}");
     }
     let path = Path::new(alloc, b"/streams/t")?;
     assert!(rt; store.tree().look(&path).is_none());
@@ -236,43 +263,94 @@ fn loaded(alloc: Global, depot: &mut MemDepot) -> Result<MetaStore, Fail>
     }
 }
 
+/// The text of the request that is stopped.
+const STOPPED: &str = "create /streams/s";
+
+/// Whether a request is stopped at the device.
+fn is_stopped(alloc: Global, depot: &mut MemDepot, store: &mut MetaStore) -> Result<bool, Fail>
+    requires { Stands (view_by depot.old) store.old.journal }
+    ensures { Stands (view_by depot.new) store.new.journal }
+{
+    let op = request_of(alloc, STOPPED)?;
+    let reply = store.serve(depot, 1, 1, &op);
+    Ok(matches!(reply, Err(MetaFault::Device)))
+}
+
+/// Whether a request, a new session and the end of one say that the store failed before.
+fn is_at_its_end(alloc: Global, depot: &mut MemDepot, store: &mut MetaStore) -> Result<bool, Fail>
+    requires { Stands (view_by depot.old) store.old.journal }
+{
+    let op = request_of(alloc, STOPPED)?;
+    let reply = store.serve(depot, 2, 1, &op);
+    let ended = store.expire(depot, 7);
+    let session = store.connect(depot);
+    Ok(
+        matches!(reply, Err(MetaFault::Failed))
+            && ended == Err(MetaFault::Failed)
+            && session == Err(MetaFault::Failed),
+    )
+}
+
+/// A depot whose metadata file stops in a writing call.
+fn fused(alloc: Global, call: u64, outcome: Outcome) -> Result<MemDepot, Fail>
+    ensures { IfOk result (λ depot. IsEmpty (view_by depot) meta_file) }
+{
+    let mut depot = MemDepot::new(alloc)?;
+    depot.fuse(file(), call, outcome);
+    Ok(depot)
+}
+
+/// Whether a store whose request stops at the device does nothing from then on.
+fn stops(alloc: Global, depot: &mut MemDepot) -> Result<bool, Fail>
+    requires { IsEmpty (view_by depot.old) meta_file }
+{
+    let mut store = made(alloc, depot)?;
+    let session = store.connect(depot)?;
+    if session != 1 || !is_stopped(alloc, depot, &mut store)? {
+        return Ok(false);
+    }
+    is_at_its_end(alloc, depot, &mut store)
+}
+
+/// Whether the reply to the same request, from the file that is left, is the one that is wanted.
+fn is_told_after(alloc: Global, depot: &mut MemDepot, wanted: &str) -> Result<bool, Fail> {
+    let mut store = loaded(alloc, depot)?;
+    served(alloc, depot, &mut store, 1, 1, STOPPED, wanted)
+}
+
+/// Whether a request that stops in a writing call of the metadata file is left as a row says. A row is `CALL OUTCOME => REPLY`:
+/// the reply to the same request afterwards.
+fn stop_holds(alloc: Global, row: &str) -> Result<bool, Fail> {
+    let (stop, wanted) = row.split_once(" => ").unwrap_or((row, ""));
+    let (call, outcome) = stop.split_once(' ').unwrap_or((stop, ""));
+    let outcome = if outcome == "after" {
+        Outcome::After
+    } else {
+        Outcome::Before
+    };
+    let mut depot = fused(alloc, call.parse().unwrap_or(0), outcome)?;
+    if !stops(alloc, &mut depot)? || !depot.revive(file()) {
+        return Ok(false);
+    }
+    is_told_after(alloc, &mut depot, wanted)
+}
+
+/// Stops in the calls of a request, which come behind six of a new store and four of a session.
+const STOPS: &str = "\
+10 before => made /streams/s
+10 after => made /streams/s
+11 before => made /streams/s
+11 after => made /streams/s
+12 before => made /streams/s
+12 after => none
+13 before => made /streams/s
+13 after => none";
+
 #[test]
 fn a_stop_leaves_the_request_or_not(rt: HostRuntime) -> Result<(), Fail> {
     let alloc = rt.alloc();
-    for (call, outcome, is_left) in [
-        (1, Outcome::Before, false),
-        (1, Outcome::After, false),
-        (2, Outcome::Before, false),
-        (2, Outcome::After, false),
-        (3, Outcome::Before, false),
-        (3, Outcome::After, true),
-        (4, Outcome::Before, false),
-        (4, Outcome::After, true),
-    ] {
-        let mut depot = MemDepot::new(alloc)?;
-        depot.fuse(file(), 9 + call, outcome);
-        let mut store = MetaStore::make(alloc, &mut depot, conf())?;
-        assert_eq!(rt; store.connect(&mut depot)?, 1);
-        let op = request_of(alloc, "create /streams/s")?;
-        assert!(rt; matches!(store.serve(&mut depot, 1, 1, &op), Err(MetaFault::Device)));
-        assert!(rt; matches!(store.serve(&mut depot, 2, 1, &op), Err(MetaFault::Failed)));
-        assert_eq!(rt; store.expire(&mut depot, 7), Err(MetaFault::Failed));
-        assert_eq!(rt; store.connect(&mut depot), Err(MetaFault::Failed));
-        assert!(rt; depot.revive(file()));
-        let mut store = loaded(alloc, &mut depot)?;
-        let wanted = if is_left { "none" } else { "made /streams/s" };
-        assert!(rt;
-            served(
-                alloc,
-                &mut depot,
-                &mut store,
-                1,
-                1,
-                "create /streams/s",
-                wanted
-            )?,
-            "stopped in call {call}, {outcome:?}"
-        );
+    for row in STOPS.split('\n') {
+        assert!(rt; stop_holds(alloc, row)?, "{row}");
     }
     Ok(())
 }
@@ -333,16 +411,34 @@ fn damage_has_its_place(rt: HostRuntime) -> Result<(), Fail> {
     Ok(())
 }
 
+/// Whether the call of a row answers as the row says; after each seventh row the store is loaded anew.
+fn row_holds_anew(
+    alloc: Global,
+    depot: &mut MemDepot,
+    store: &mut MetaStore,
+    count: usize,
+    row: &str,
+) -> Result<bool, Fail>
+    requires { Stands (view_by depot.old) store.old.journal }
+    ensures { OnOk result (Stands (view_by depot.new) store.new.journal) }
+{
+    let holds = row_holds(alloc, depot, store, row)?;
+    if count % 7 == 0 {
+        *store = loaded(alloc, depot)?;
+    }
+    Ok(holds)
+}
+
 #[test]
 fn random_requests_are_served(rt: HostRuntime) -> Result<(), Fail> {
     let alloc = rt.alloc();
     let mut depot = MemDepot::new(alloc)?;
-    let mut store = MetaStore::make(alloc, &mut depot, conf())?;
-    for (count, row) in ROWS.split('\n').enumerate() {
-        assert!(rt; row_holds(alloc, &mut depot, &mut store, row)?, "{row}");
-        if count % 7 == 0 {
-            store = loaded(alloc, &mut depot)?;
-        }
+    let mut store = made(alloc, &mut depot)?;
+    'rows: for (count, row) in ROWS.split('\n').enumerate() {
+        assert!(rt;
+            row_holds_anew(alloc, &mut depot, &mut store, count, row)?,
+            "{row}"
+        );
     }
     Ok(())
 }
