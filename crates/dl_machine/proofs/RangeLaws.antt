@@ -173,27 +173,28 @@ rise_fits (node.Bookie b) = one_fits (Rise b) tt (omega arith) (omega arith)
 rise_fits node.Meta = one_fits RiseMeta tt (omega arith) (omega arith)
 
 -- a client takes a line
-order_fits : (line : ℕ) (x : Step) (c : Option ℕ) → IsStep x → LineFits (order_of line x c)
-order_fits line x None is = record { each = tt; few = omega arith; taken = omega arith }
-order_fits line x (Some c) is = one_fits (Order c line x) is (omega arith) (omega arith)
+order_fits : (line : ℕ) (x : Step) (c : Option ℕ) → IsU32 line → IsStep x → LineFits (order_of line x c)
+order_fits line x None number is = record { each = tt; few = omega arith; taken = omega arith }
+order_fits line x (Some c) number is = one_fits (Order c line x) (number, is) (omega arith) (omega arith)
 
 -- the atomic steps of a line that doesn't settle
-plain_fits : (s : State) (line : ℕ) (x : Step) → MailFits s → IsStep x → LineFits (plain_atoms s line x)
+plain_fits : (s : State) (line : ℕ) (x : Step) → IsU32 line → MailFits s → IsStep x → LineFits (plain_atoms s line x)
 unfolding plain_atoms
-plain_fits s line (step.Setup b e w a) mail is = one_fits (SetUp (conf_of b e w a)) is.0 (omega arith) (omega arith)
-plain_fits s line (step.Join c) mail is = one_fits (Join c) is (omega arith) (omega arith)
-plain_fits s line (step.Crash c) mail is = one_fits (Crash c) tt (omega arith) (omega arith)
-plain_fits s line (step.Expire k) mail is = one_fits (End k) is (omega arith) (omega arith)
-plain_fits s line (step.Deliver from to n) mail is = deliver_fits (place_of s.letters from to n)
-plain_fits s line (step.Sync b) mail is = one_fits (Commit b) tt (omega arith) (omega arith)
-plain_fits s line (step.Lose b) mail is = one_fits (Lose b) tt (omega arith) (omega arith)
-plain_fits s line (step.Stop b call kept) mail is = one_fits (Stop b (is_kept call kept)) tt (omega arith) (omega arith)
-plain_fits s line (step.StopMeta c n call kept) mail is = stop_fits (is_kept call kept) _
-plain_fits s line (step.Kill x) mail is = kill_fits x
-plain_fits s line (step.Up x) mail is = rise_fits x
-plain_fits s line step.Settle mail is = record { each = tt; few = omega arith; taken = omega arith }
-plain_fits s line step.Mail mail is = free_line 0 _ (omega arith) (mails_fit (length s.letters) (links s.letters) mail.few (links_fit s.letters mail.links))
-plain_fits s line x mail is = order_fits line x (client_in x) is
+plain_fits s line (step.Setup b e w a) number mail is = one_fits (SetUp (conf_of b e w a)) is.0 (omega arith) (omega arith)
+plain_fits s line (step.Join c) number mail is = one_fits (Join c) is (omega arith) (omega arith)
+plain_fits s line (step.Crash c) number mail is = one_fits (Crash c) tt (omega arith) (omega arith)
+plain_fits s line (step.Expire k) number mail is = one_fits (End k) is (omega arith) (omega arith)
+plain_fits s line (step.Deliver from to n) number mail is = deliver_fits (place_of s.letters from to n)
+plain_fits s line (step.Sync b) number mail is = one_fits (Commit b) tt (omega arith) (omega arith)
+plain_fits s line (step.Lose b) number mail is = one_fits (Lose b) tt (omega arith) (omega arith)
+plain_fits s line (step.Stop b call kept) number mail is = one_fits (Stop b (is_kept call kept)) tt (omega arith) (omega arith)
+plain_fits s line (step.StopMeta c n call kept) number mail is = stop_fits (is_kept call kept) _
+plain_fits s line (step.Kill x) number mail is = kill_fits x
+plain_fits s line (step.Up x) number mail is = rise_fits x
+plain_fits s line step.Settle number mail is = record { each = tt; few = omega arith; taken = omega arith }
+plain_fits s line step.Mail number mail is =
+    free_line 0 _ (omega arith) (mails_fit (length s.letters) (links s.letters) mail.few (links_fit s.letters mail.links))
+plain_fits s line x number mail is = order_fits line x (client_in x) number is
 
 -- ---- settling
 
@@ -240,20 +241,20 @@ settle_fits s = subst LineFits (sym (failures_aside.settling turn_limit 0 s)) (f
 -- ---- lines
 
 -- the atomic steps of a line, where no device fails
-lucky_fits : (s : State) (line : ℕ) (x : Step) → MailFits s → IsStep x → LineFits (with_luck well 0 (plain_atoms s line x))
-lucky_fits s line x mail is = subst LineFits (sym (failures_aside.steps 0 (plain_atoms s line x))) (plain_fits s line x mail is)
+lucky_fits : (s : State) (line : ℕ) (x : Step) → IsU32 line → MailFits s → IsStep x → LineFits (with_luck well 0 (plain_atoms s line x))
+lucky_fits s line x number mail is = subst LineFits (sym (failures_aside.steps 0 (plain_atoms s line x))) (plain_fits s line x number mail is)
 
 -- the same of a line that changes something
-busy_fits : (s : State) (line : ℕ) (x : Step) → MailFits s → IsStep x → LineFits (busy_atoms well s line x)
-busy_fits s line step.Settle mail is = settle_fits s
-busy_fits s line x mail is = lucky_fits s line x mail is
+busy_fits : (s : State) (line : ℕ) (x : Step) → IsU32 line → MailFits s → IsStep x → LineFits (busy_atoms well s line x)
+busy_fits s line step.Settle number mail is = settle_fits s
+busy_fits s line x number mail is = lucky_fits s line x number mail is
 
 -- the atomic steps of a line
-line_fits : (s : State) (line : ℕ) (x : Step) → MailFits s → IsStep x → LineFits (line_atoms well s line x)
+line_fits : (s : State) (line : ℕ) (x : Step) → IsU32 line → MailFits s → IsStep x → LineFits (line_atoms well s line x)
 unfolding line_atoms
-line_fits s line x mail is =
+line_fits s line x number mail is =
     cond_both LineFits (is_idle s x) (Shows event.Nothing ∷ []) (busy_atoms well s line x) (one_fits (Shows event.Nothing) tt (omega arith) (omega arith))
-    (busy_fits s line x mail is)
+    (busy_fits s line x number mail is)
 
 -- ---- runs
 
@@ -283,7 +284,8 @@ unfolding run step_with
 run_fits n s line [] at few is sent fit = tt
 run_fits n s line (x ∷ xs) at few is sent fit =
     let atoms : List Atom = line_atoms well s line x in
-    let its = line_fits s line x (record { links = fit.letters; few = omega (arith, run_grows s line (x ∷ xs), sent) }) is.0 in
+    let its = line_fits s line x (omega arith, omega (arith, at, few))
+    (record { links = fit.letters; few = omega (arith, run_grows s line (x ∷ xs), sent) }) is.0 in
     let here : suc n ≤ most_lines = omega (arith, few) in
     let rest : suc n + length xs ≤ most_lines = omega (arith, few) in
     let row = row_behind n s atoms here its fit in
@@ -405,7 +407,8 @@ read_fits : (g : Going) (line : List ℕ) (read : Result Step ℕ) (rest : Going
     → ((next : Going) → GoingFits next → FittingText (rest next).text) → FittingText (run_line g (length line) read rest).text
 read_fits g line (Err column) rest e few fit later = no_text
 read_fits g line (Ok x) rest e few fit later =
-    let its = line_fits g.state (suc g.lines) x (record { links = fit.state.letters; few = fit.sent }) (reading_found step_exact line x e).0 in
+    let its = line_fits g.state (suc g.lines) x (omega arith, omega (arith, few))
+    (record { links = fit.state.letters; few = fit.sent }) (reading_found step_exact line x e).0 in
     after_fits g (length line) (line_atoms well g.state (suc g.lines) x) (run_atoms g (line_atoms well g.state (suc g.lines) x)).past rest refl few its fit
     later
 

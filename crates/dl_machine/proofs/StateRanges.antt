@@ -40,7 +40,7 @@ use Rattle.dl_schedule.specs.declared.step.Step.{Step}
 use Rattle.dl_schedule.specs.StepLines.{IsStep, IsClient, IsBookie, IsCount, IsLink}
 use Rattle.dl_transcript.specs.declared.event.Event.{Event}
 use Rattle.dl_transcript.specs.declared.event.Event.TheVariants as event
-use Rattle.dl_transcript.specs.Ranges.{IsSession}
+use Rattle.dl_transcript.specs.Ranges.{IsU32, IsSession}
 use Rattle.dl_rules_client.specs.Acts.{Input, Line, Came, ClientArgs, Acts, SentEntry, Confirmation}
 use Rattle.dl_rules_client.specs.Clients.{client_of, acts_of}
 use Rattle.dl_rules_client.specs.EventRanges.{LetterFits, FitsItsLine, IsInput, lines_in, set_most, ArgsFit}
@@ -68,6 +68,7 @@ use Rattle.dl_machine.proofs.Movements.{cond_both, put_each}
 -- A client that has joined, where at most so many lines were run, and so many lines and letters taken.
 pub record JoinedFits (lines inputs c : ℕ) (me : Joined) : Type 0 where
   pub number : IsClient c
+  pub session : IsSession me.session
   pub view : AllByRecursion IsInput me.view
   pub few : length me.view ≤ inputs
   pub calls : me.calls + set_most * lines_in me.view ≤ set_most * lines
@@ -114,7 +115,7 @@ pub record OutcomeFits (lines inputs : ℕ) (o : Outcome) : Type 0 where
 joined_more : (n m i j c : ℕ) (me : Option Joined) → n ≤ m → i ≤ j → AllSome (JoinedFits n i c) me → AllSome (JoinedFits m j c) me
 joined_more n m i j c None h g fit = tt
 joined_more n m i j c (Some me) h g fit =
-    record { number = fit.number; view = fit.view; few = omega (arith, g, fit.few); calls = omega (arith, h, fit.calls) }
+    record { number = fit.number; session = fit.session; view = fit.view; few = omega (arith, g, fit.few); calls = omega (arith, h, fit.calls) }
 
 -- a state behind lines more
 pub state_more : (n m i j : ℕ) (s : State) → n ≤ m → i ≤ j → StateFits n i s → StateFits m j s
@@ -285,23 +286,25 @@ acts_fit n more m i s c me x acts h is did fit =
 
 -- what a client is started with
 args_fit : (n c : ℕ) (conf : Conf) (me : Joined) (view : List Input) → ConfFits conf → n ≤ most_lines → length view ≤ most_u64 → IsClient c
-    → me.calls + set_most * lines_in view ≤ set_most * n → ArgsFit (lines_in view) (length view) (args_of conf c me)
-args_fit n c conf me view world few counted number calls = record { number = number; count = world; calls = omega (arith, few, calls); counted = counted }
+    → IsSession me.session → me.calls + set_most * lines_in view ≤ set_most * n → ArgsFit (lines_in view) (length view) (args_of conf c me)
+args_fit n c conf me view world few counted number session calls =
+    record { number = number; session = session; count = world; calls = omega (arith, few, calls); counted = counted }
 
 -- a client takes a line
-line_fits : (n i : ℕ) (s : State) (c : ℕ) (conf : Option Conf) (me : Option Joined) (line : ℕ) (x : Step) → suc n ≤ most_lines → suc i ≤ most_u64 → IsStep x
-    → AllSome ConfFits conf → AllSome (JoinedFits n i c) me → StateFits n i s → OutcomeFits (suc n) (suc i) (client_takes s c conf me (Line line x))
+line_fits : (n i : ℕ) (s : State) (c : ℕ) (conf : Option Conf) (me : Option Joined) (line : ℕ) (x : Step) → suc n ≤ most_lines → suc i ≤ most_u64
+    → IsU32 line × IsStep x → AllSome ConfFits conf → AllSome (JoinedFits n i c) me → StateFits n i s
+    → OutcomeFits (suc n) (suc i) (client_takes s c conf me (Line line x))
 line_fits n i s c (Some conf) (Some me) line x few small is world mine fit =
     let view : List Input = Line line x ∷ me.view in
     let who : ClientArgs = args_of conf c me in
     let calls : me.calls + set_most * lines_in view ≤ set_most * suc n = omega (arith, mine.calls) in
     let inputs : length view ≤ suc i = omega (arith, mine.few) in
-    let args = args_fit (suc n) c conf me view world few (omega (arith, inputs, small)) mine.number calls in
+    let args = args_fit (suc n) c conf me view world few (omega (arith, inputs, small)) mine.number mine.session calls in
     let now =
     client_fits who me.view (fewer who (lines_in me.view) (lines_in view) (length me.view) (length view) (omega arith) (omega arith) args) mine.view in
     let move = taken_line_fits who (lines_in me.view) (length me.view) (client_of who me.view) line x args is now in
     acts_fit n 1 (suc n) i s c me (Line line x) (acts_of who me.view (Line line x)) (omega arith)
-    (record { number = mine.number; view = (is, mine.view); few = inputs; calls = calls }) move.acts fit
+    (record { number = mine.number; session = mine.session; view = (is, mine.view); few = inputs; calls = calls }) move.acts fit
 line_fits n i s c (Some conf) None line x few small is world mine fit =
     quietly_fits (suc n) (suc i) s (state_more n (suc n) i (suc i) s (omega arith) (omega arith) fit)
 line_fits n i s c None me line x few small is world mine fit =
@@ -312,20 +315,20 @@ unheard_fits : (n i : ℕ) (s : State) → StateFits n i s → StateFits n (suc 
 unheard_fits n i s fit = state_more n n i (suc i) s (omega arith) (omega arith) fit
 
 -- a client takes a letter
-letter_fits : (n i : ℕ) (s : State) (c : ℕ) (conf : Option Conf) (me : Option Joined) (l : Letter) → n ≤ most_lines → suc i ≤ most_u64
+letter_fits : (n i : ℕ) (s : State) (c : ℕ) (conf : Option Conf) (me : Option Joined) (l : Letter) → n ≤ most_lines → suc i ≤ most_u64 → LetterFits l
     → AllSome ConfFits conf → AllSome (JoinedFits n i c) me → StateFits n i s → OutcomeFits n (suc i) (client_takes s c conf me (Came l))
-letter_fits n i s c (Some conf) (Some me) l few small world mine fit =
+letter_fits n i s c (Some conf) (Some me) l few small link world mine fit =
     let view : List Input = Came l ∷ me.view in
     let who : ClientArgs = args_of conf c me in
     let inputs : length view ≤ suc i = omega (arith, mine.few) in
-    let args = args_fit n c conf me view world few (omega (arith, inputs, small)) mine.number mine.calls in
+    let args = args_fit n c conf me view world few (omega (arith, inputs, small)) mine.number mine.session mine.calls in
     let now =
     client_fits who me.view (fewer who (lines_in me.view) (lines_in view) (length me.view) (length view) (omega arith) (omega arith) args) mine.view in
-    let move = taken_letter_fits who (lines_in me.view) (length me.view) (client_of who me.view) l args now in
+    let move = taken_letter_fits who (lines_in me.view) (length me.view) (client_of who me.view) l args link now in
     acts_fit n 0 n i s c me (Came l) (acts_of who me.view (Came l)) (omega arith)
-    (record { number = mine.number; view = (tt, mine.view); few = inputs; calls = mine.calls }) move.acts fit
-letter_fits n i s c (Some conf) None l few small world mine fit = quietly_fits n (suc i) s (unheard_fits n i s fit)
-letter_fits n i s c None me l few small world mine fit = quietly_fits n (suc i) s (unheard_fits n i s fit)
+    (record { number = mine.number; session = mine.session; view = (link, mine.view); few = inputs; calls = mine.calls }) move.acts fit
+letter_fits n i s c (Some conf) None l few small link world mine fit = quietly_fits n (suc i) s (unheard_fits n i s fit)
+letter_fits n i s c None me l few small link world mine fit = quietly_fits n (suc i) s (unheard_fits n i s fit)
 
 -- ---- the metadata node
 
@@ -453,7 +456,7 @@ taken_fits n i s l (AtBookie b) (AtBookie d) few small link ends fit = quietly_f
 taken_fits n i s l (AtBookie b) AtMeta few small link ends fit = quietly_fits n (suc i) s (unheard_fits n i s fit)
 taken_fits n i s l AtMeta from few small link ends fit = meta_fits n (suc i) s l (request_in l.msg) link (unheard_fits n i s fit)
 taken_fits n i s l (Client c) from few small link ends fit =
-    letter_fits n i s c s.conf (s.clients c) l few small fit.conf (fit.joined c) fit
+    letter_fits n i s c s.conf (s.clients c) l few small link fit.conf (fit.joined c) fit
 
 -- a letter is delivered
 deliver_fits : (n i : ℕ) (s : State) (place : ℕ) (l : Option Letter) → n ≤ most_lines → suc i ≤ most_u64 → AllSome LetterFits l → StateFits n i s
@@ -558,7 +561,13 @@ join_fits n i s c few number fit =
         nodes = later.nodes;
         letters = later.letters;
         joined = put_each s.clients c process (λ j p. AllSome (JoinedFits (suc n) i j) p)
-            (record { number = number; view = tt; few = omega arith; calls = omega (arith, later.calls c) }) later.joined;
+            (record {
+              number = number;
+              session = (omega arith, omega (arith, few, fit.sessions));
+              view = tt;
+              few = omega arith;
+              calls = omega (arith, later.calls c);
+            }) later.joined;
         calls = later.calls;
         ledgers = later.ledgers;
         sessions = omega (arith, last, fit.sessions);
@@ -609,7 +618,7 @@ IsAtom (SetUp conf) = ConfFits conf
 IsAtom (Join c) = IsClient c
 IsAtom (Crash c) = Unit {0}
 IsAtom (End k) = IsSession k
-IsAtom (Order c line x) = IsStep x
+IsAtom (Order c line x) = IsU32 line × IsStep x
 IsAtom (Deliver place) = Unit {0}
 IsAtom (Commit b) = Unit {0}
 IsAtom (Stop b kept) = Unit {0}

@@ -1,6 +1,8 @@
 -- What is known of the values of events by the lines of the schedule.
 use Rattle.std.specs.Prelude.{ℕ, suc, ◌+◌, ◌*◌, ◌≤◌, List, [], ◌∷◌, length}
 use Rattle.std.specs.List.{AllByRecursion}
+use Rattle.dl_types.specs.declared.refusal.Refusal.{Refusal}
+use Rattle.dl_types.specs.declared.refusal.Refusal.TheVariants as refusal
 use Rattle.dl_text.specs.NameFields.{IsName}
 use Rattle.dl_text.specs.Numbers.{most_u32, most_u64}
 use Rattle.dl_msg.specs.declared.letter.Letter.{Letter}
@@ -10,9 +12,29 @@ use Rattle.dl_transcript.specs.declared.event.Event.{Event}
 use Rattle.dl_transcript.specs.declared.event.Event.TheVariants.{Joined, Expired, Created, Removed, Released, Whole, Writer, Took, Sent, Grow, Ack, Committed}
 use Rattle.dl_transcript.specs.declared.event.Event.TheVariants.{Closed, Recovered, Point, Truncated, Purged, OpenedAt, OpenedFrom, Reading, End, Rows}
 use Rattle.dl_transcript.specs.declared.event.Event.TheVariants.{Refused, Mail, Nothing}
-use Rattle.dl_transcript.specs.Ranges.{IsU64, IsEvent}
+use Rattle.dl_transcript.specs.Ranges.{IsU32, IsU64, IsSession, IsRefusal, IsEvent}
 use Rattle.dl_rules_client.specs.Acts.{Input, Line, Came, ClientArgs, Acts}
 use Rattle.dl_rules_client.specs.Clients.{acts_of}
+
+-- What is said of the values of a refusal: all that its line asks for; nothing of one that tells a path, a version, a count or the
+-- point of a stream as the metadata tree has it, or the length of a record.
+abbrev pub RefusalFits : Refusal → Type 0
+RefusalFits (refusal.Moved path version) = Unit {0}
+RefusalFits (refusal.GaveUp path) = Unit {0}
+RefusalFits (refusal.NotEmpty count) = Unit {0}
+RefusalFits (refusal.Truncated point) = Unit {0}
+RefusalFits (refusal.TooLong length) = Unit {0}
+RefusalFits (refusal.Expired session) = IsRefusal (refusal.Expired session)
+RefusalFits (refusal.Held member) = IsRefusal (refusal.Held member)
+RefusalFits (refusal.Fenced bookie) = IsRefusal (refusal.Fenced bookie)
+RefusalFits refusal.NoStream = IsRefusal refusal.NoStream
+RefusalFits refusal.StreamExists = IsRefusal refusal.StreamExists
+RefusalFits (refusal.TxidBack last given) = IsRefusal (refusal.TxidBack last given)
+RefusalFits (refusal.BeyondEnd end) = IsRefusal (refusal.BeyondEnd end)
+RefusalFits refusal.NoWriter = IsRefusal refusal.NoWriter
+RefusalFits (refusal.Busy line) = IsRefusal (refusal.Busy line)
+RefusalFits (refusal.BadName at) = IsRefusal (refusal.BadName at)
+RefusalFits refusal.WindowFull = IsRefusal refusal.WindowFull
 
 -- What is said of the values of an event: all that its line asks for; of an event that takes values out of the metadata tree or out
 -- of stored entries, the others alone.
@@ -39,14 +61,18 @@ FitsItsLine (OpenedFrom c stream txid) = IsEvent (OpenedFrom c stream txid)
 FitsItsLine (Reading c stream) = IsEvent (Reading c stream)
 FitsItsLine (End c stream) = IsEvent (End c stream)
 FitsItsLine (Rows c stream rows) = IsClient c × IsName stream
-FitsItsLine (Refused c why) = IsClient c
+FitsItsLine (Refused c why) = IsClient c × RefusalFits why
 FitsItsLine (Mail from to count) = IsEvent (Mail from to count)
 FitsItsLine Nothing = IsEvent Nothing
 
--- a line is one that the grammar takes
+-- a letter is on a link
+abbrev pub LetterFits : Letter → Type 0
+LetterFits l = IsLink l.from l.to
+
+-- a line is one that the grammar takes, with a number of 32 bits, and a letter is on a link
 abbrev pub IsInput : Input → Type 0
-IsInput (Line number x) = IsStep x
-IsInput (Came l) = Unit {0}
+IsInput (Line number x) = IsU32 number × IsStep x
+IsInput (Came l) = LetterFits l
 
 -- how many lines are among these
 abbrev pub lines_in : List Input → ℕ
@@ -63,13 +89,10 @@ set_most = MAX_SET
 -- lines have numbers of 32 bits, and all that it takes can be counted in 64 bits.
 pub record ArgsFit (lines inputs : ℕ) (me : ClientArgs) : Type 0 where
   pub number : IsClient me.number
+  pub session : IsSession me.session
   pub count : IsCount me.conf.b
   pub calls : me.calls + set_most * lines ≤ most_u32
   pub counted : inputs ≤ most_u64
-
--- a letter is on a link
-abbrev pub LetterFits : Letter → Type 0
-LetterFits l = IsLink l.from l.to
 
 -- What a client does: its events fit their lines, and its letters are on links.
 pub record ClientActsFit (acts : Acts) : Type 0 where
