@@ -5,4 +5,5 @@ pub mod StayLaws
 pub mod Settlings
 pub mod SessionLaws
 pub mod StateRanges
+pub mod PointRanges
 pub mod RangeLaws

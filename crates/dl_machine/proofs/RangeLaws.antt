@@ -121,12 +121,12 @@ mail_more n (m ∷ ms) each = ((each.0.0, (each.0.1.0, omega (arith, each.0.1.1)
 
 -- a letter more on links
 with_mail_fits : (n : ℕ) (l : Letter) (ms : List Mail) → LetterFits l → AllByRecursion (IsMail n) ms → AllByRecursion (IsMail (suc n)) (with_mail l ms)
-with_mail_fits n l [] link each = ((link, (omega arith, omega arith)), tt)
+with_mail_fits n l [] link each = ((link.0, (omega arith, omega arith)), tt)
 with_mail_fits n l (m ∷ ms) link each =
     cond_both (AllByRecursion (IsMail (suc n))) (is_on m.from m.to l) _ _
     ((each.0.0, (omega arith, omega (arith, each.0.1.1))), mail_more n ms each.1)
     (cond_both (AllByRecursion (IsMail (suc n))) (comes_before l m) (first_mail l ∷ m ∷ ms) (m ∷ with_mail l ms)
-    ((link, (omega arith, omega arith)), mail_more n (m ∷ ms) each)
+    ((link.0, (omega arith, omega arith)), mail_more n (m ∷ ms) each)
     ((each.0.0, (each.0.1.0, omega (arith, each.0.1.1))), with_mail_fits n l ms link each.1))
 
 -- the links of letters

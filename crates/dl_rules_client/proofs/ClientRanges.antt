@@ -1,6 +1,6 @@
 -- The ranges of what a client keeps and shows: its order under way, its writer, its reader, and its events.
 use Rattle.std.proofs.Common.{ℕ, ◌+◌, ◌*◌, ◌≤◌, Bool, true, false, List, Option, Some, None, suc, length}
-use Rattle.std.proofs.Common.{arith}
+use Rattle.std.proofs.Common.{arith, refl}
 use Rattle.std.specs.List.{AllByRecursion}
 use Rattle.dl_types.specs.declared.refusal.Refusal.{Refusal}
 use Rattle.dl_types.specs.declared.start.Start.{Start}
@@ -47,7 +47,7 @@ DoingFits me k o Confirms = Unit {0}
 DoingFits me k o (Closes args heard) = Unit {0}
 DoingFits me k o (Seeks from heard) = StartFits from
 DoingFits me k o Reads = Unit {0}
-DoingFits me k o (Truncates to heard) = IsPlaceFrom 0 to
+DoingFits me k o (Truncates to heard) = IsPlaceFrom 1 to
 DoingFits me k o (Purges heard) = length heard ≤ k
 
 -- An order, where at most so many lines and letters were taken.
@@ -163,7 +163,7 @@ letters_fit more letters acts each fit =
 
 -- messages that are told, as letters
 pub each_letter_fits : (me : ClientArgs) (ts : List Told) → IsClient me.number → AllByRecursion ToldFits ts → AllByRecursion LetterFits (told_letters me ts)
-each_letter_fits me ts c each = all-map ToldFits LetterFits (told_letter me) (λ t b. (c, b)) ts each
+each_letter_fits me ts c each = all-map ToldFits LetterFits (told_letter me) (λ t is. ((c, is.0), is.1)) ts each
 
 -- an event more
 pub event_fits : (more : ℕ) (e : Event) (acts : Acts) → FitsItsLine e → ActsFit more acts → ActsFit more (with_event e acts)
@@ -221,7 +221,7 @@ pub goes_fits : {A : Type 0} (me : ClientArgs) (n k more : ℕ) (now : ClientNow
 goes_fits me n k more now o acts P Wait done c is fit acted told h later = waits_fits me n k more now o acts is fit acted
 goes_fits me n k more now o acts P (Ask r) done c is fit acted told h later = record {
   now = record { count = fit.count; taken = fit.taken; order = is; writer = fit.writer; reader = fit.reader };
-  acts = letters_fit more _ acts (c, tt) acted;
+  acts = letters_fit more _ acts ((c, record { request = r; same = refl; fits = told }), tt) acted;
 }
 goes_fits me n k more now o acts P (Tell ts) done c is fit acted told h later =
     waits_fits me n k more now o (with_letters (told_letters me ts) acts) is fit

@@ -5,8 +5,6 @@ use Rattle.dl_types.specs.declared.address.Address.{Address}
 use Rattle.dl_types.specs.declared.address.Address.TheVariants.{Client, Bookie as AtBookie, Meta as AtMeta}
 use Rattle.dl_types.specs.declared.refusal.Refusal.TheVariants as why
 use Rattle.dl_types.specs.declared.start.Start.TheVariants as start
-use Rattle.dl_types.specs.declared.dlsn.Dlsn.{Dlsn}
-use Rattle.dl_text.specs.PlaceFields.{IsPlaceFrom}
 use Rattle.dl_msg.specs.declared.heard.Heard.{Heard}
 use Rattle.dl_msg.specs.declared.heard.Heard.TheVariants.{Reply, From}
 use Rattle.dl_msg.specs.declared.letter.Letter.{Letter}
@@ -107,10 +105,6 @@ msg_fits me n k now b (msg.MetaReply session number r) args from fit = meta_fits
 
 -- ---- lines
 
--- a place whose segment is at least 1 is a place
-any_place : (d : Dlsn) → IsPlaceFrom 1 d → IsPlaceFrom 0 d
-any_place d (segment, rest) = ((omega arith, segment.1), rest)
-
 -- an order that begins
 order_line_fits : (me : ClientArgs) (n k : ℕ) (now : ClientNow) (line : ℕ) (x : Step) → ArgsFit (suc n) k me → IsU32 line × IsStep x → NowFits me n k now
     → MoveFits me (suc n) k 1 (takes_order me now line x)
@@ -142,7 +136,7 @@ order_line_fits me n k now line (step.SeekTxid c s txid) args is fit =
 order_line_fits me n k now line (step.Read c count) args is fit =
     begins_read_fits me (suc n) k 1 now line count now.reader args.number is.0 fit.reader (now_more me n k (suc n) now (omega arith) fit)
 order_line_fits me n k now line (step.Truncate c s d) args is fit =
-    begins_fits me (suc n) k 1 now line s (Truncates d []) (λ o. (truncate_first (truncate_args o d)).1) args.number is.0 is.1.1.0 (any_place d is.1.1.1) tt
+    begins_fits me (suc n) k 1 now line s (Truncates d []) (λ o. (truncate_first (truncate_args o d)).1) args.number is.0 is.1.1.0 is.1.1.1 tt
     (now_more me n k (suc n) now (omega arith) fit)
 order_line_fits me n k now line x args is fit = stays_fits me (suc n) k 1 now (now_more me n k (suc n) now (omega arith) fit)
 
@@ -194,7 +188,7 @@ pub taken_letter_fits : (me : ClientArgs) (n k : ℕ) (now : ClientNow) (l : Let
 unfolding client_takes
 taken_letter_fits me n k now l args link fit =
     confirmed_fits me n (suc k) 0 (takes_msg me now (bookie_in l.from) l.msg)
-    (msg_fits me n k now (bookie_in l.from) l.msg args (from_fits l.from l.to link) fit)
+    (msg_fits me n k now (bookie_in l.from) l.msg args (from_fits l.from l.to link.0) fit)
 
 -- a client with fewer lines and letters
 pub fewer : (me : ClientArgs) (n m i j : ℕ) → n ≤ m → i ≤ j → ArgsFit m j me → ArgsFit n i me

@@ -145,7 +145,7 @@ rows_at_fit segment entry slot (p ∷ ps) s e few each =
 add_letters_fit : {r e : ℕ} (w : LogNow) (bytes : List ℕ) → LogFits r e w → AllByRecursion ToldFits (add_letters w.ledger bytes)
 unfolding add_letters
 add_letters_fit w bytes fit =
-    all-map IsBookie ToldFits _ (λ b is. is) (members w.ledger.pieces (sent_count w)) (fit.members (sent_count w))
+    all-map IsBookie ToldFits _ (λ b is. (is, tt)) (members w.ledger.pieces (sent_count w)) (fit.members (sent_count w))
 
 -- the entry under way is sent
 parts_fit : (r e : ℕ) (w : LogNow) → r ≤ most_u32 → e ≤ most_u64 → LogFits r e w → LogMoveFits r (suc e) (sends_parts w)

@@ -182,6 +182,10 @@ open_goes_fits me n k more now o h heard c name line is fit =
     (open_told (open_args me o) stage h is) (open_fits (open_args me o) stage h fit.count is).1
     (λ x p. ends_open_fits me n k more now o acts x c name line p fit acted)
 
+-- a place whose segment is at least 1 is a place
+any_place : (d : Dlsn) → IsPlaceFrom 1 d → IsPlaceFrom 0 d
+any_place d (segment, rest) = ((omega arith, segment.1), rest)
+
 -- an order of this doing, on the stream of another
 order_of : (me : ClientArgs) (k : ℕ) (o : Order) (doing : Doing) → IsName o.stream → IsU32 o.line → DoingFits me k o doing
     → OrderFits me k (order_doing o doing)
@@ -222,8 +226,8 @@ order_fits me n k more now o h (Truncates to heard) c few name is order fit =
     goes_to_fits me n (suc k) more now o (Truncates to (h ∷ heard)) (IsPlaceFrom 0)
     (truncate_hears (truncate_args o to) (truncate_stage (truncate_args o to) heard) h).1 (event.Truncated me.number o.stream)
     c (order_of me (suc k) o (Truncates to (h ∷ heard)) name order.line is) fit
-    (truncate_told (truncate_args o to) (truncate_stage (truncate_args o to) heard) h)
-    (truncated_fits (truncate_args o to) (truncate_stage (truncate_args o to) heard) h is)
+    (truncate_told (truncate_args o to) (truncate_stage (truncate_args o to) heard) h (name, is))
+    (truncated_fits (truncate_args o to) (truncate_stage (truncate_args o to) heard) h (any_place to is))
     (λ d p. (c, (name, p)))
 order_fits me n k more now o h (Purges heard) c few name is order fit =
     goes_to_fits me n (suc k) more now o (Purges (h ∷ heard)) (λ count. count ≤ suc k) (purge_hears o.stream (purge_stage o.stream heard) h).1

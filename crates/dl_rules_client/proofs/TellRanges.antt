@@ -46,19 +46,20 @@ use Rattle.dl_rules_stream.specs.Purges as purge
 use Rattle.dl_rules_stream.specs.Locks as lock
 use Rattle.dl_rules_stream.specs.Looks as look
 use Rattle.dl_rules_stream.specs.Allocations as allocation
-use Rattle.dl_rules_client.specs.EventRanges.{RefusalFits}
+use Rattle.dl_rules_client.specs.EventRanges.{RefusalFits, RequestFits, MsgFits}
+use Rattle.dl_text.specs.NameFields.{IsName}
 use Rattle.dl_rules_client.proofs.RangeLists.{Any, AllOk, AllSome, cond_both, all-map}
 use Rattle.dl_rules_client.proofs.NodeRanges.{MaxSeqFits, NameFits, segments_fit, last_segment_fits}
 use Rattle.dl_rules_client.proofs.RecoveryRanges.{LockStageFits, maxseq_node_fits}
 
--- a storage node of the configuration is told
+-- a storage node of the configuration is told something
 abbrev pub ToldFits : Told → Type 0
-ToldFits t = IsBookie t.bookie
+ToldFits t = IsBookie t.bookie × MsgFits t.msg
 
--- what an order does next: it tells storage nodes of the configuration, where it tells any, and is refused by what a line can say
+-- what an order does next: it tells storage nodes of the configuration, where it tells any, its request fits, and so does its refusal
 abbrev pub TellsFit : {A : Type 0} → Next A → Type 0
 TellsFit Wait = Unit {0}
-TellsFit (Ask r) = Unit {0}
+TellsFit (Ask r) = RequestFits r
 TellsFit (Tell letters) = AllByRecursion ToldFits letters
 TellsFit (Done a) = Unit {0}
 TellsFit (Refused r) = RefusalFits r
@@ -183,9 +184,9 @@ subject_fits tag ledger bookies q is = record {
 }
 
 -- a message for each of these
-pub each_told : (bookies : List ℕ) (m : Msg) → AllByRecursion IsBookie bookies → AllByRecursion ToldFits (tell_each bookies m)
-each_told [] m each = tt
-each_told (b ∷ bs) m each = (each.0, each_told bs m each.1)
+pub each_told : (bookies : List ℕ) (m : Msg) → MsgFits m → AllByRecursion IsBookie bookies → AllByRecursion ToldFits (tell_each bookies m)
+each_told [] m is each = tt
+each_told (b ∷ bs) m is each = ((each.0, is), each_told bs m is each.1)
 
 -- messages that are told, where there are any
 pub tells_fit : (A : Type 0) (letters : List Told) → AllByRecursion ToldFits letters → TellsFit (tells {A = A} letters)
@@ -198,7 +199,7 @@ tells_fit A (t ∷ ts) each = each
 pub within_told : {S T A B : Type 0} (wrap : S → T) (ended : T) (go_on : A → T × Next B) (move : S × Next A) → TellsFit move.1
     → ((a : A) → TellsFit (go_on a).1) → TellsFit (within wrap ended go_on move).1
 within_told wrap ended go_on (stage, Wait) is later = tt
-within_told wrap ended go_on (stage, Ask r) is later = tt
+within_told wrap ended go_on (stage, Ask r) is later = is
 within_told wrap ended go_on (stage, Tell letters) is later = is
 within_told wrap ended go_on (stage, Done x) is later = later x
 within_told wrap ended go_on (stage, Refused r) is later = is
@@ -280,29 +281,32 @@ pub seek_told : (s : List ℕ) (stage : seek.SeekStage) (h : Heard) → TellsFit
 seek_told s stage h = by_told stage (seek.seek_answers s stage) h (seek_answers_told s stage)
 
 -- a new point that was asked for
-bounds_told : (x : truncate.TruncateArgs) (version : ℕ) (b : truncate.Bounds) → BoundsFit b → TellsFit (truncate.within_bounds x version b).1
-bounds_told x version b is =
+bounds_told : (x : truncate.TruncateArgs) (version : ℕ) (b : truncate.Bounds) → IsName x.stream × IsPlaceFrom 1 x.place → BoundsFit b
+    → TellsFit (truncate.within_bounds x version b).1
+bounds_told x version b args is =
     let P : truncate.TruncateStage × Next Dlsn → Type 0 = λ m. TellsFit m.1 in
     let low : truncate.TruncateStage × Next Dlsn = (truncate.TruncateDone, Refused (refused.Truncated b.point)) in
     let high : truncate.TruncateStage × Next Dlsn = (truncate.TruncateDone, Refused (refused.BeyondEnd b.end)) in
     let sets : truncate.TruncateStage × Next Dlsn = (truncate.SettingCut version, Ask (SetCut x.stream x.place version)) in
-    cond_both P (is_at_most x.place b.point) low (if is_before b.end x.place then high else sets) tt (cond_both P (is_before b.end x.place) high sets is tt)
+    cond_both P (is_at_most x.place b.point) low (if is_before b.end x.place then high else sets) tt (cond_both P (is_before b.end x.place) high sets is args)
 
 -- what a truncation does at an answer
-truncate_answers_told : (x : truncate.TruncateArgs) (stage : truncate.TruncateStage) (a : MetaAnswer) → TellsFit (truncate.truncate_answers x stage a).1
+truncate_answers_told : (x : truncate.TruncateArgs) (stage : truncate.TruncateStage) (a : MetaAnswer) → IsName x.stream × IsPlaceFrom 1 x.place
+    → TellsFit (truncate.truncate_answers x stage a).1
 unfolding truncate.truncate_answers
-truncate_answers_told x truncate.LookingAtCut (answer.Many (Names names ∷ Bytes cut version ∷ Bytes maxseq w ∷ [])) =
+truncate_answers_told x truncate.LookingAtCut (answer.Many (Names names ∷ Bytes cut version ∷ Bytes maxseq w ∷ [])) args =
     refused_such truncate.TruncateDone (truncate.within_bounds x version) (truncate.bounds_of x.stream names cut maxseq) BoundsFit
-    (bounds_refused x.stream names cut maxseq) (bounds_told x version)
-truncate_answers_told x truncate.LookingAtCut (answer.Failed place NoNode) = tt
-truncate_answers_told x truncate.LookingAtCut (answer.Failed place w) = no_way_fits (LookCut x.stream) place w
-truncate_answers_told x (truncate.SettingCut version) (answer.Failed place w) = no_way_fits (SetCut x.stream x.place version) place w
-truncate_answers_told x (truncate.SettingCut version) a = tt
-truncate_answers_told x stage a = tt
+    (bounds_refused x.stream names cut maxseq) (λ b. bounds_told x version b args)
+truncate_answers_told x truncate.LookingAtCut (answer.Failed place NoNode) args = tt
+truncate_answers_told x truncate.LookingAtCut (answer.Failed place w) args = no_way_fits (LookCut x.stream) place w
+truncate_answers_told x (truncate.SettingCut version) (answer.Failed place w) args = no_way_fits (SetCut x.stream x.place version) place w
+truncate_answers_told x (truncate.SettingCut version) a args = tt
+truncate_answers_told x stage a args = tt
 
 -- a truncation
-pub truncate_told : (x : truncate.TruncateArgs) (stage : truncate.TruncateStage) (h : Heard) → TellsFit (truncate.truncate_hears x stage h).1
-truncate_told x stage h = by_told stage (truncate.truncate_answers x stage) h (truncate_answers_told x stage)
+pub truncate_told : (x : truncate.TruncateArgs) (stage : truncate.TruncateStage) (h : Heard) → IsName x.stream × IsPlaceFrom 1 x.place
+    → TellsFit (truncate.truncate_hears x stage h).1
+truncate_told x stage h args = by_told stage (truncate.truncate_answers x stage) h (λ a. truncate_answers_told x stage a args)
 
 -- the next segment of a purge
 purge_goes_told : (s : List ℕ) (rest : List SegmentName) (count : ℕ) → TellsFit (purge.goes_on s rest count).1

@@ -43,6 +43,7 @@ use Rattle.dl_rules_stream.specs.Requests.{Beginning, Completion, GetLedger, Mar
 use Rattle.dl_rules_stream.specs.Locks.{lock_hears}
 use Rattle.dl_rules_stream.specs.Looks.{Looked, look_hears}
 use Rattle.dl_rules_stream.specs.Allocations.{AllocationStage, allocation_hears}
+use Rattle.dl_rules_client.specs.EventRanges.{MsgFits}
 use Rattle.dl_rules_client.proofs.RangeLists.{Any, cond_both}
 use Rattle.dl_rules_client.proofs.OpenRanges.{OpenStageFits, RecoverStageFits}
 use Rattle.dl_rules_client.proofs.TellRanges.{ToldFits, TellsFit, SubjectFits, subject_fits, each_told, tells_fit, within_told, refused_told, lock_told}
@@ -50,12 +51,12 @@ use Rattle.dl_rules_client.proofs.OpenRanges.{OpenStageFits, RecoverStageFits}
 use Rattle.dl_rules_client.proofs.TellRanges.{look_told, allocation_told, no_way_fits, ResultFits, point_refused, segment_refused, ledger_refused}
 
 -- messages for a write set
-write_told : (x : Subject) (entry : ℕ) (m : Msg) → SubjectFits x → AllByRecursion ToldFits (tell_write_set x entry m)
-write_told x entry m is = each_told (members x.pieces entry) m (is.each entry)
+write_told : (x : Subject) (entry : ℕ) (m : Msg) → MsgFits m → SubjectFits x → AllByRecursion ToldFits (tell_write_set x entry m)
+write_told x entry m fits is = each_told (members x.pieces entry) m fits (is.each entry)
 
 -- messages for the last piece
-last_told : (x : Subject) (m : Msg) → SubjectFits x → AllByRecursion ToldFits (tell_last_piece x m)
-last_told x m is = each_told (last_piece x.pieces).members m is.last
+last_told : (x : Subject) (m : Msg) → MsgFits m → SubjectFits x → AllByRecursion ToldFits (tell_last_piece x m)
+last_told x m fits is = each_told (last_piece x.pieces).members m fits is.last
 
 -- ---- ledgers
 
@@ -67,7 +68,7 @@ CameTold move = AllByRecursion ToldFits move.1
 reads_told : (x : Subject) (start entry : ℕ) → SubjectFits x → CameTold (reads x start entry)
 reads_told x start entry is =
     cond_both CameTold (nat_le entry greatest_entry) (Reading start entry [], tell_write_set x entry (AskEntry x.tag x.ledger entry)) (Exhausted, [])
-    (write_told x entry (AskEntry x.tag x.ledger entry) is) tt
+    (write_told x entry (AskEntry x.tag x.ledger entry) tt is) tt
 
 -- what a recovery tells at a message of a bookie
 recovers_told : (x : Subject) (phase : Phase) (b : ℕ) (m : Msg) → SubjectFits x → CameTold (recovers x phase b m)
@@ -82,7 +83,7 @@ recovers_told x (Reading start entry denials) b (NoEntry t l e true) is =
     (cond_both CameTold (blocks x.pieces entry (among (b ∷ denials))) (Ended entry, []) (Reading start entry (b ∷ denials), []) tt tt) tt
 recovers_told x (Reading start entry denials) b (EntryIs t l e bytes) is =
     cond_both CameTold (is_about_entry x entry b t l e) (after_entry x start entry bytes) (Reading start entry denials, [])
-    (write_told x entry (Copy x.tag x.ledger entry start bytes) is) tt
+    (write_told x entry (Copy x.tag x.ledger entry start bytes) tt is) tt
 recovers_told x (Copying start entry copied) b (CopyOk t l e) is =
     cond_both CameTold (is_about_entry x entry b t l e) (after_copy x start entry (b ∷ copied)) (Copying start entry copied, [])
     (cond_both CameTold (acks x.pieces entry (among (b ∷ copied))) (reads x start (entry + 1)) (Copying start entry (b ∷ copied), [])
@@ -102,7 +103,7 @@ about_fits x m is = subject_fits x.tag x.ledger x.conf.b m.q is
 -- a node that is marked
 after_mark_told : (x : ledger.RecoveryArgs) (m : LedgerNode) (version : ℕ) → IsCount x.conf.b → TellsFit (ledger.after_mark x m version).1
 after_mark_told x m version is =
-    after_move_told x m version (fences (ledger.subject_of x m)) (last_told (ledger.subject_of x m) (AskLac x.tag x.ledger true) (about_fits x m is))
+    after_move_told x m version (fences (ledger.subject_of x m)) (last_told (ledger.subject_of x m) (AskLac x.tag x.ledger true) tt (about_fits x m is))
 
 -- behind a node that was read
 after_node_told : (x : ledger.RecoveryArgs) (version : ℕ) (m : LedgerNode) (s : LedgerState) → IsCount x.conf.b → TellsFit (ledger.after_node x version m s).1
@@ -155,7 +156,7 @@ after_closed_told : (x : segment.SegmentArgs) (l : ℕ) (m : LedgerNode) (count 
 after_closed_told x l m zero is = tt
 after_closed_told x l m (suc last) is =
     tells_fit segment.Recovered (asks_entry (segment.end_subject x l m) last)
-    (write_told (segment.end_subject x l m) last (AskEntry x.tag l last) (about_fits (segment.ledger_args x l) m is))
+    (write_told (segment.end_subject x l m) last (AskEntry x.tag l last) tt (about_fits (segment.ledger_args x l) m is))
 
 -- behind the recovery of the ledger
 after_ledger_told : (x : segment.SegmentArgs) (l : ℕ) (move : ledger.RecoveryStage × Next ℕ) → IsCount x.conf.b → TellsFit move.1
@@ -305,12 +306,12 @@ fetches_fit : (x : reading.ReaderArgs) (r : reading.Read) (w : reading.Walk) (re
 fetches_fit x r w readable entry is =
     cond_both ReadFits (nat_lt entry readable) (reading.FetchingEntry r w readable entry (Fetching entry), tells (asks_entry w.subject entry))
     (reading.walks x r w.rest)
-    (is, tells_fit (List ReadRow) (asks_entry w.subject entry) (write_told w.subject entry (AskEntry w.subject.tag w.subject.ledger entry) is))
+    (is, tells_fit (List ReadRow) (asks_entry w.subject entry) (write_told w.subject entry (AskEntry w.subject.tag w.subject.ledger entry) tt is))
     (walks_fit x r w.rest)
 
 -- how many entries can be read is asked
 counts_fit : (r : reading.Read) (w : reading.Walk) → SubjectFits w.subject → ReadFits (reading.counts r w)
-counts_fit r w is = (is, tells_fit (List ReadRow) (asks_count w.subject) (last_told w.subject (AskLac w.subject.tag w.subject.ledger false) is))
+counts_fit r w is = (is, tells_fit (List ReadRow) (asks_count w.subject) (last_told w.subject (AskLac w.subject.tag w.subject.ledger false) tt is))
 
 -- a segment in progress
 in_progress_fits : (x : reading.ReaderArgs) (r : reading.Read) (w : reading.Walk) (m : LedgerNode) (s : LedgerState) → SubjectFits w.subject

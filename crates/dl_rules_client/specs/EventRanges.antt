@@ -1,11 +1,15 @@
 -- What is known of the values of events by the lines of the schedule.
-use Rattle.std.specs.Prelude.{ℕ, suc, ◌+◌, ◌*◌, ◌≤◌, List, [], ◌∷◌, length}
+use Rattle.std.specs.Prelude.{◌≡◌, ℕ, suc, ◌+◌, ◌*◌, ◌≤◌, List, [], ◌∷◌, length}
 use Rattle.std.specs.List.{AllByRecursion}
+use Rattle.dl_types.specs.declared.meta_op.MetaOp.{MetaOp}
 use Rattle.dl_types.specs.declared.refusal.Refusal.{Refusal}
 use Rattle.dl_types.specs.declared.refusal.Refusal.TheVariants as refusal
 use Rattle.dl_text.specs.NameFields.{IsName}
 use Rattle.dl_text.specs.Numbers.{most_u32, most_u64}
+use Rattle.dl_text.specs.PlaceFields.{IsPlaceFrom}
 use Rattle.dl_msg.specs.declared.letter.Letter.{Letter}
+use Rattle.dl_msg.specs.declared.msg.Msg.{Msg}
+use Rattle.dl_msg.specs.declared.msg.Msg.TheVariants.{MetaAsk}
 use Rattle.dl_schedule.specs.declared.step.TheConstants.{MAX_SET}
 use Rattle.dl_schedule.specs.StepLines.{IsStep, IsClient, IsCount, IsLink}
 use Rattle.dl_transcript.specs.declared.event.Event.{Event}
@@ -13,6 +17,7 @@ use Rattle.dl_transcript.specs.declared.event.Event.TheVariants.{Joined, Expired
 use Rattle.dl_transcript.specs.declared.event.Event.TheVariants.{Closed, Recovered, Point, Truncated, Purged, OpenedAt, OpenedFrom, Reading, End, Rows}
 use Rattle.dl_transcript.specs.declared.event.Event.TheVariants.{Refused, Mail, Nothing}
 use Rattle.dl_transcript.specs.Ranges.{IsU32, IsU64, IsSession, IsRefusal, IsEvent}
+use Rattle.dl_rules_stream.specs.Requests.{Request, SetCut, op_of}
 use Rattle.dl_rules_client.specs.Acts.{Input, Line, Came, ClientArgs, Acts}
 use Rattle.dl_rules_client.specs.Clients.{acts_of}
 
@@ -53,7 +58,7 @@ FitsItsLine (Ack c n d) = IsEvent (Ack c n d)
 FitsItsLine (Committed stream d) = IsEvent (Committed stream d)
 FitsItsLine (Closed stream k) = IsU64 k
 FitsItsLine (Recovered c stream d) = IsEvent (Recovered c stream d)
-FitsItsLine (Point stream d) = Unit {0}
+FitsItsLine (Point stream d) = IsEvent (Point stream d)
 FitsItsLine (Truncated c stream d) = IsEvent (Truncated c stream d)
 FitsItsLine (Purged c stream count) = IsEvent (Purged c stream count)
 FitsItsLine (OpenedAt c stream d) = IsClient c × IsName stream
@@ -65,9 +70,25 @@ FitsItsLine (Refused c why) = IsClient c × RefusalFits why
 FitsItsLine (Mail from to count) = IsEvent (Mail from to count)
 FitsItsLine Nothing = IsEvent Nothing
 
--- a letter is on a link
+-- what is said of a request: the point that it sets is that of a stream, and a place of a segment
+abbrev pub RequestFits : Request → Type 0
+RequestFits (SetCut s point version) = IsName s × IsPlaceFrom 1 point
+RequestFits r = Unit {0}
+
+-- An operation that is asked for is that of a request.
+pub record OpFits (op : MetaOp) : Type 0 where
+  pub request : Request
+  pub same : op ≡ op_of request
+  pub fits : RequestFits request
+
+-- what a message asks for
+abbrev pub MsgFits : Msg → Type 0
+MsgFits (MetaAsk session number op) = OpFits op
+MsgFits m = Unit {0}
+
+-- a letter is on a link, and what it asks for is a request
 abbrev pub LetterFits : Letter → Type 0
-LetterFits l = IsLink l.from l.to
+LetterFits l = IsLink l.from l.to × MsgFits l.msg
 
 -- a line is one that the grammar takes, with a number of 32 bits, and a letter is on a link
 abbrev pub IsInput : Input → Type 0
