@@ -6,4 +6,5 @@ pub mod Settlings
 pub mod SessionLaws
 pub mod StateRanges
 pub mod PointRanges
+pub mod LineLengths
 pub mod RangeLaws

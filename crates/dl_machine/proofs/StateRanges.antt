@@ -46,7 +46,7 @@ use Rattle.dl_transcript.specs.declared.event.Event.TheVariants as event
 use Rattle.dl_transcript.specs.Ranges.{IsU32, IsSession}
 use Rattle.dl_rules_client.specs.Acts.{Input, Line, Came, ClientArgs, Acts, SentEntry, Confirmation}
 use Rattle.dl_rules_client.specs.Clients.{client_of, acts_of}
-use Rattle.dl_rules_client.specs.EventRanges.{OpFits, MsgFits, LetterFits, FitsItsLine, IsInput, lines_in, set_most, ArgsFit}
+use Rattle.dl_rules_client.specs.EventRanges.{OpFits, MsgFits, LetterFits, FitsItsLine, IsInput, IsCountable, lines_in, set_most, ArgsFit}
 use Rattle.dl_rules_client.proofs.RangeLists.{all-get, AllSome, all-append, all-last, all-take, all-drop, all-map, all-flat}
 use Rattle.dl_rules_client.proofs.LogRanges.{IsRow}
 use Rattle.dl_rules_client.proofs.ClientRanges.{ActsFit, SentFits}
@@ -282,7 +282,7 @@ args_fit n c conf me view world few counted number session calls =
 
 -- a client takes a line
 line_fits : (n i : ℕ) (s : State) (c : ℕ) (conf : Option Conf) (me : Option Joined) (line : ℕ) (x : Step) → suc n ≤ most_lines → suc i ≤ most_u64
-    → IsU32 line × IsStep x → AllSome ConfFits conf → AllSome (JoinedFits n i c) me → StateFits n i s
+    → IsU32 line × (IsStep x × IsCountable x) → AllSome ConfFits conf → AllSome (JoinedFits n i c) me → StateFits n i s
     → OutcomeFits (suc n) (suc i) (client_takes s c conf me (Line line x))
 line_fits n i s c (Some conf) (Some me) line x few small is world mine fit =
     let view : List Input = Line line x ∷ me.view in
@@ -709,7 +709,7 @@ IsAtom (SetUp conf) = ConfFits conf
 IsAtom (Join c) = IsClient c
 IsAtom (Crash c) = Unit {0}
 IsAtom (End k) = IsSession k
-IsAtom (Order c line x) = IsU32 line × IsStep x
+IsAtom (Order c line x) = IsU32 line × (IsStep x × IsCountable x)
 IsAtom (Deliver place) = Unit {0}
 IsAtom (Commit b) = Unit {0}
 IsAtom (Stop b kept) = Unit {0}

@@ -31,7 +31,7 @@ use Rattle.dl_rules_client.specs.Orders.{order_hears}
 use Rattle.dl_rules_client.specs.Clients.{reply_hears, meta_hears, tagged_hears, takes_msg, bookie_in, takes_order, if_free, takes_line}
 use Rattle.dl_rules_client.specs.Clients.{with_confirmation, client_takes, client_of, acts_of}
 use Rattle.dl_rules_client.proofs.RangeLists.{cond_both}
-use Rattle.dl_rules_client.specs.EventRanges.{ClientActsFit, IsInput, LetterFits, lines_in, ArgsFit}
+use Rattle.dl_rules_client.specs.EventRanges.{ClientActsFit, IsInput, IsCountable, LetterFits, lines_in, ArgsFit}
 use Rattle.dl_rules_client.proofs.OpenRanges.{recover_begun}
 use Rattle.dl_rules_client.proofs.RangeLists.{AllSome}
 use Rattle.dl_rules_client.proofs.ClientRanges.{now_later, some_later, OrderFits, NowFits, MoveFits, now_more, new_fits, no_acts_fit, stays_fits}
@@ -149,14 +149,15 @@ free_fits me n k now (Some o) line x args is order fit =
 free_fits me n k now None line x args is order fit = order_line_fits me n k now line x args is fit
 
 -- a line
-line_fits : (me : ClientArgs) (n k : ℕ) (now : ClientNow) (line : ℕ) (x : Step) → ArgsFit (suc n) k me → IsU32 line × IsStep x → NowFits me n k now
-    → MoveFits me (suc n) k 1 (takes_line me now line x)
+line_fits : (me : ClientArgs) (n k : ℕ) (now : ClientNow) (line : ℕ) (x : Step) → ArgsFit (suc n) k me → IsU32 line × (IsStep x × IsCountable x)
+    → NowFits me n k now → MoveFits me (suc n) k 1 (takes_line me now line x)
 unfolding takes_line
-line_fits me n k now line (step.Append c txid payload) args is fit = appends_one_fits me n k now now.writer txid payload args is.1.1.0 is.1.1.1 fit.writer fit
+line_fits me n k now line (step.Append c txid payload) args is fit =
+    appends_one_fits me n k now now.writer txid payload args is.1.0.1.0 is.1.0.1.1 is.1.1 fit.writer fit
 line_fits me n k now line (step.Set c txid payloads) args is fit =
-    appends_many_fits me n k now now.writer txid payloads args is.1.1.0 is.1.1.1.valid (omega (arith, is.1.1.1.most)) fit.writer fit
+    appends_many_fits me n k now now.writer txid payloads args is.1.0.1.0 is.1.0.1.1.valid (omega (arith, is.1.0.1.1.most)) is.1.1 fit.writer fit
 line_fits me n k now line (step.Flush c) args is fit = flushes_fits me n k now now.writer args fit.writer fit
-line_fits me n k now line x args is fit = free_fits me n k now now.order line x args is fit.order fit
+line_fits me n k now line x args is fit = free_fits me n k now now.order line x args (is.0, is.1.0) fit.order fit
 
 -- ---- views
 
@@ -168,7 +169,7 @@ confirmed_fits me n k more move fit = record {
 }
 
 -- a client that takes a line
-pub taken_line_fits : (me : ClientArgs) (n k : ℕ) (now : ClientNow) (line : ℕ) (x : Step) → ArgsFit (suc n) (suc k) me → IsU32 line × IsStep x
+pub taken_line_fits : (me : ClientArgs) (n k : ℕ) (now : ClientNow) (line : ℕ) (x : Step) → ArgsFit (suc n) (suc k) me → IsU32 line × (IsStep x × IsCountable x)
     → NowFits me n k now
     → MoveFits me (suc n) (suc k) 1 (client_takes me now (Line line x))
 unfolding client_takes

@@ -307,14 +307,14 @@ send_fault_fits r e w due fit =
     (writer_fault_fits (is_closing w.mode) (fenced_at w) fit.fenced) (fault_if_fits (due && is_window_full w) refused.WindowFull tt)
 
 -- why a record is refused
-take_fault_fits : (r e : ℕ) (w : LogNow) (size txid : ℕ) → IsTxid txid → LogFits r e w → AllSome RefusalFits (take_fault w size txid)
-take_fault_fits r e w size txid id fit =
+take_fault_fits : (r e : ℕ) (w : LogNow) (size txid : ℕ) → size ≤ most_u64 → IsTxid txid → LogFits r e w → AllSome RefusalFits (take_fault w size txid)
+take_fault_fits r e w size txid small id fit =
     let long : Option Refusal = fault_if (nat_lt longest_payload size) (refused.TooLong size) in
     let back : Option Refusal = fault_if (nat_lt txid w.last_taken) (refused.TxidBack w.last_taken txid) in
     let full : Option Refusal = fault_if (not (log.fits w size) && is_window_full w) refused.WindowFull in
     or_fault_fits (writer_fault (is_closing w.mode) (fenced_at w)) (or_fault long (or_fault back full))
     (writer_fault_fits (is_closing w.mode) (fenced_at w) fit.fenced)
-    (or_fault_fits long (or_fault back full) (fault_if_fits (nat_lt longest_payload size) (refused.TooLong size) tt)
+    (or_fault_fits long (or_fault back full) (fault_if_fits (nat_lt longest_payload size) (refused.TooLong size) (omega arith, small))
     (or_fault_fits back full (fault_if_fits (nat_lt txid w.last_taken) (refused.TxidBack w.last_taken txid) (fit.last, id))
     (fault_if_fits (not (log.fits w size) && is_window_full w) refused.WindowFull tt)))
 
@@ -416,6 +416,7 @@ pub record IsTaken (o : Origin) (txid : ℕ) (payloads : List (List ℕ)) : Type
   pub calls : o.call + length payloads ≤ suc most_u32
   pub bytes : AllByRecursion AllBytes payloads
   pub few : length payloads ≤ set_most
+  pub size : set_size payloads ≤ most_u64
 
 -- records that are taken behind room that is made
 taken_fit : (r e size : ℕ) (w : LogNow) (o : Origin) (txid : ℕ) (payloads : List (List ℕ)) (part : ℕ → Stored) → r ≤ most_u32 → suc e ≤ most_u64
@@ -432,7 +433,8 @@ pub appends_fit : (r e : ℕ) (w : LogNow) (o : Origin) (txid : ℕ) (payload : 
     → IsTaken o txid (payload ∷ []) → LogFits r e w → CallFits (r + set_most) (suc (suc e)) (appends w o txid payload)
 unfolding appends
 appends_fit r e w o txid payload h k is fit =
-    unless_fit (r + set_most) (suc (suc e)) (take_fault w (length payload) txid) _ (take_fault_fits r e w (length payload) txid is.id fit)
+    unless_fit (r + set_most) (suc (suc e)) (take_fault w (length payload) txid) _
+    (take_fault_fits r e w (length payload) txid (omega (arith, is.size)) is.id fit)
     (taken_fit r e (length payload) w o txid (payload ∷ []) (λ position. Plain position txid payload) h k is fit)
 
 -- a set of records
@@ -440,7 +442,7 @@ pub sets_fit : (r e : ℕ) (w : LogNow) (o : Origin) (txid : ℕ) (payloads : Li
     → IsTaken o txid payloads → LogFits r e w → CallFits (r + set_most) (suc (suc e)) (appends_set w o txid payloads)
 unfolding appends_set
 sets_fit r e w o txid payloads h k is fit =
-    unless_fit (r + set_most) (suc (suc e)) (take_fault w (set_size payloads) txid) _ (take_fault_fits r e w (set_size payloads) txid is.id fit)
+    unless_fit (r + set_most) (suc (suc e)) (take_fault w (set_size payloads) txid) _ (take_fault_fits r e w (set_size payloads) txid is.size is.id fit)
     (taken_fit r e (set_size payloads) w o txid payloads (λ position. Set position txid payloads) h k is fit)
 
 -- what is under way is sent in another mode

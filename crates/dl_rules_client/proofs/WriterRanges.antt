@@ -146,35 +146,37 @@ takes_fits me n k now w call txid payloads (Ok m) args is taken writer fit resul
 
 -- the records of a line are such as a writer may take
 origin_fits : (me : ClientArgs) (n k : ℕ) (now : ClientNow) (txid : ℕ) (payloads : List (List ℕ)) → ArgsFit (suc n) k me → NowFits me n k now → IsTxid txid
-    → AllByRecursion AllBytes payloads → length payloads ≤ set_most → IsTaken (next_origin me now) txid payloads
-origin_fits me n k now txid payloads args fit t bytes few = record {
+    → AllByRecursion AllBytes payloads → length payloads ≤ set_most → log.set_size payloads ≤ most_u64 → IsTaken (next_origin me now) txid payloads
+origin_fits me n k now txid payloads args fit t bytes few size = record {
   client = args.number;
   id = t;
   calls = omega (arith, args.calls, fit.taken, few);
   bytes = bytes;
   few = few;
+  size = size;
 }
 
 -- a record is appended
 pub appends_one_fits : (me : ClientArgs) (n k : ℕ) (now : ClientNow) (w : Option WriterView) (txid : ℕ) (payload : List ℕ)
-    → ArgsFit (suc n) k me → IsTxid txid → AllBytes payload → AllSome (WriterFits n) w → NowFits me n k now
+    → ArgsFit (suc n) k me → IsTxid txid → AllBytes payload → log.set_size (payload ∷ []) ≤ most_u64 → AllSome (WriterFits n) w → NowFits me n k now
     → MoveFits me (suc n) k 1 (appends_one me now w txid payload)
-appends_one_fits me n k now None txid payload args t bytes writer fit =
+appends_one_fits me n k now None txid payload args t bytes size writer fit =
     refuses_fits me (suc n) k 1 now why.NoWriter args.number tt (now_more me n k (suc n) now (omega arith) fit)
-appends_one_fits me n k now (Some w) txid payload args t bytes writer fit =
-    let taken = origin_fits me n k now txid (payload ∷ []) args fit t (bytes, tt) (omega arith) in
+appends_one_fits me n k now (Some w) txid payload args t bytes size writer fit =
+    let taken = origin_fits me n k now txid (payload ∷ []) args fit t (bytes, tt) (omega arith) size in
     takes_fits me n k now w (Appends (next_origin me now) txid payload) txid (payload ∷ []) (appends (log_now w) (next_origin me now) txid payload)
     args taken taken writer fit
     (appends_fit (set_most * n) (2 * n) (log_now w) (next_origin me now) txid payload (omega (arith, args.calls)) (omega (arith, args.calls)) taken writer.log)
 
 -- a set of records is appended
 pub appends_many_fits : (me : ClientArgs) (n k : ℕ) (now : ClientNow) (w : Option WriterView) (txid : ℕ) (payloads : List (List ℕ))
-    → ArgsFit (suc n) k me → IsTxid txid → AllByRecursion AllBytes payloads → length payloads ≤ set_most → AllSome (WriterFits n) w → NowFits me n k now
+    → ArgsFit (suc n) k me → IsTxid txid → AllByRecursion AllBytes payloads → length payloads ≤ set_most
+    → log.set_size payloads ≤ most_u64 → AllSome (WriterFits n) w → NowFits me n k now
     → MoveFits me (suc n) k 1 (appends_many me now w txid payloads)
-appends_many_fits me n k now None txid payloads args t bytes few writer fit =
+appends_many_fits me n k now None txid payloads args t bytes few size writer fit =
     refuses_fits me (suc n) k 1 now why.NoWriter args.number tt (now_more me n k (suc n) now (omega arith) fit)
-appends_many_fits me n k now (Some w) txid payloads args t bytes few writer fit =
-    let taken = origin_fits me n k now txid payloads args fit t bytes few in
+appends_many_fits me n k now (Some w) txid payloads args t bytes few size writer fit =
+    let taken = origin_fits me n k now txid payloads args fit t bytes few size in
     takes_fits me n k now w (AppendsSet (next_origin me now) txid payloads) txid payloads (appends_set (log_now w) (next_origin me now) txid payloads)
     args taken taken writer fit
     (sets_fit (set_most * n) (2 * n) (log_now w) (next_origin me now) txid payloads (omega (arith, args.calls)) (omega (arith, args.calls)) taken writer.log)

@@ -11,6 +11,9 @@ use Rattle.dl_msg.specs.declared.letter.Letter.{Letter}
 use Rattle.dl_msg.specs.declared.msg.Msg.{Msg}
 use Rattle.dl_msg.specs.declared.msg.Msg.TheVariants.{MetaAsk}
 use Rattle.dl_schedule.specs.declared.step.TheConstants.{MAX_SET}
+use Rattle.dl_schedule.specs.declared.step.Step.{Step}
+use Rattle.dl_schedule.specs.declared.step.Step.TheVariants as step
+use Rattle.dl_rules_stream.specs.LogWriters.{set_size}
 use Rattle.dl_schedule.specs.StepLines.{IsStep, IsClient, IsCount, IsLink}
 use Rattle.dl_transcript.specs.declared.event.Event.{Event}
 use Rattle.dl_transcript.specs.declared.event.Event.TheVariants.{Joined, Expired, Created, Removed, Released, Whole, Writer, Took, Sent, Grow, Ack, Committed}
@@ -22,13 +25,13 @@ use Rattle.dl_rules_client.specs.Acts.{Input, Line, Came, ClientArgs, Acts}
 use Rattle.dl_rules_client.specs.Clients.{acts_of}
 
 -- What is said of the values of a refusal: all that its line asks for; nothing of one that tells a path, a version, a count or the
--- point of a stream as the metadata tree has it, or the length of a record.
+-- point of a stream as the metadata tree has it.
 abbrev pub RefusalFits : Refusal → Type 0
 RefusalFits (refusal.Moved path version) = Unit {0}
 RefusalFits (refusal.GaveUp path) = Unit {0}
 RefusalFits (refusal.NotEmpty count) = Unit {0}
 RefusalFits (refusal.Truncated point) = Unit {0}
-RefusalFits (refusal.TooLong length) = Unit {0}
+RefusalFits (refusal.TooLong length) = IsRefusal (refusal.TooLong length)
 RefusalFits (refusal.Expired session) = IsRefusal (refusal.Expired session)
 RefusalFits (refusal.Held member) = IsRefusal (refusal.Held member)
 RefusalFits (refusal.Fenced bookie) = IsRefusal (refusal.Fenced bookie)
@@ -90,9 +93,15 @@ MsgFits m = Unit {0}
 abbrev pub LetterFits : Letter → Type 0
 LetterFits l = IsLink l.from l.to × MsgFits l.msg
 
+-- a line whose payloads, as a set, have a length of 64 bits
+abbrev pub IsCountable : Step → Type 0
+IsCountable (step.Append c txid payload) = set_size (payload ∷ []) ≤ most_u64
+IsCountable (step.Set c txid payloads) = set_size payloads ≤ most_u64
+IsCountable x = Unit {0}
+
 -- a line is one that the grammar takes, with a number of 32 bits, and a letter is on a link
 abbrev pub IsInput : Input → Type 0
-IsInput (Line number x) = IsU32 number × IsStep x
+IsInput (Line number x) = IsU32 number × (IsStep x × IsCountable x)
 IsInput (Came l) = LetterFits l
 
 -- how many lines are among these
