@@ -5,4 +5,6 @@ pub mod StayLaws
 pub mod Settlings
 pub mod SessionLaws
 pub mod StateRanges
+pub mod PointRanges
+pub mod LineLengths
 pub mod RangeLaws

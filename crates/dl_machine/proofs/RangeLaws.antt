@@ -21,7 +21,7 @@ use Rattle.dl_transcript.specs.declared.event.Event.TheVariants as event
 use Rattle.dl_transcript.specs.Lines.{at_line, print_event, print_transcript}
 use Rattle.dl_transcript.specs.Ranges.{IsU32}
 use Rattle.dl_rules_nodes.specs.Metadata.{meta_from}
-use Rattle.dl_rules_client.specs.EventRanges.{FitsItsLine, LetterFits}
+use Rattle.dl_rules_client.specs.EventRanges.{FitsItsLine, LetterFits, IsCountable}
 use Rattle.dl_rules_client.proofs.RangeLists.{all-append}
 use Rattle.dl_machine.specs.States.{State, blank, bookies_of}
 use Rattle.dl_machine.specs.Atoms.{Atom, SetUp, Join, Crash, End, Order, Deliver, Commit, Stop, StopMeta, Kill, KillMeta, Rise, RiseMeta, Lose, Shows, atom}
@@ -42,6 +42,7 @@ use Rattle.dl_machine.specs.Limits.{Traffic, with_message, with_traffic, past_tr
 use Rattle.dl_machine.specs.Limits.{most_messages, most_message_bytes}
 use Rattle.dl_machine.specs.Replays.{past_text}
 use Rattle.dl_machine.proofs.FateLaws.{failures_aside}
+use Rattle.dl_machine.proofs.LineLengths.{line_countable}
 use Rattle.dl_machine.proofs.StateRanges.{StateFits, state_more, IsAtom, cost, takings, atom_fits}
 
 -- ---- atomic steps in order
@@ -121,12 +122,12 @@ mail_more n (m ∷ ms) each = ((each.0.0, (each.0.1.0, omega (arith, each.0.1.1)
 
 -- a letter more on links
 with_mail_fits : (n : ℕ) (l : Letter) (ms : List Mail) → LetterFits l → AllByRecursion (IsMail n) ms → AllByRecursion (IsMail (suc n)) (with_mail l ms)
-with_mail_fits n l [] link each = ((link, (omega arith, omega arith)), tt)
+with_mail_fits n l [] link each = ((link.0, (omega arith, omega arith)), tt)
 with_mail_fits n l (m ∷ ms) link each =
     cond_both (AllByRecursion (IsMail (suc n))) (is_on m.from m.to l) _ _
     ((each.0.0, (omega arith, omega (arith, each.0.1.1))), mail_more n ms each.1)
     (cond_both (AllByRecursion (IsMail (suc n))) (comes_before l m) (first_mail l ∷ m ∷ ms) (m ∷ with_mail l ms)
-    ((link, (omega arith, omega arith)), mail_more n (m ∷ ms) each)
+    ((link.0, (omega arith, omega arith)), mail_more n (m ∷ ms) each)
     ((each.0.0, (each.0.1.0, omega (arith, each.0.1.1))), with_mail_fits n l ms link each.1))
 
 -- the links of letters
@@ -173,27 +174,28 @@ rise_fits (node.Bookie b) = one_fits (Rise b) tt (omega arith) (omega arith)
 rise_fits node.Meta = one_fits RiseMeta tt (omega arith) (omega arith)
 
 -- a client takes a line
-order_fits : (line : ℕ) (x : Step) (c : Option ℕ) → IsStep x → LineFits (order_of line x c)
-order_fits line x None is = record { each = tt; few = omega arith; taken = omega arith }
-order_fits line x (Some c) is = one_fits (Order c line x) is (omega arith) (omega arith)
+order_fits : (line : ℕ) (x : Step) (c : Option ℕ) → IsU32 line × IsCountable x → IsStep x → LineFits (order_of line x c)
+order_fits line x None number is = record { each = tt; few = omega arith; taken = omega arith }
+order_fits line x (Some c) number is = one_fits (Order c line x) (number.0, (is, number.1)) (omega arith) (omega arith)
 
 -- the atomic steps of a line that doesn't settle
-plain_fits : (s : State) (line : ℕ) (x : Step) → MailFits s → IsStep x → LineFits (plain_atoms s line x)
+plain_fits : (s : State) (line : ℕ) (x : Step) → IsU32 line × IsCountable x → MailFits s → IsStep x → LineFits (plain_atoms s line x)
 unfolding plain_atoms
-plain_fits s line (step.Setup b e w a) mail is = one_fits (SetUp (conf_of b e w a)) is.0 (omega arith) (omega arith)
-plain_fits s line (step.Join c) mail is = one_fits (Join c) is (omega arith) (omega arith)
-plain_fits s line (step.Crash c) mail is = one_fits (Crash c) tt (omega arith) (omega arith)
-plain_fits s line (step.Expire k) mail is = one_fits (End k) is (omega arith) (omega arith)
-plain_fits s line (step.Deliver from to n) mail is = deliver_fits (place_of s.letters from to n)
-plain_fits s line (step.Sync b) mail is = one_fits (Commit b) tt (omega arith) (omega arith)
-plain_fits s line (step.Lose b) mail is = one_fits (Lose b) tt (omega arith) (omega arith)
-plain_fits s line (step.Stop b call kept) mail is = one_fits (Stop b (is_kept call kept)) tt (omega arith) (omega arith)
-plain_fits s line (step.StopMeta c n call kept) mail is = stop_fits (is_kept call kept) _
-plain_fits s line (step.Kill x) mail is = kill_fits x
-plain_fits s line (step.Up x) mail is = rise_fits x
-plain_fits s line step.Settle mail is = record { each = tt; few = omega arith; taken = omega arith }
-plain_fits s line step.Mail mail is = free_line 0 _ (omega arith) (mails_fit (length s.letters) (links s.letters) mail.few (links_fit s.letters mail.links))
-plain_fits s line x mail is = order_fits line x (client_in x) is
+plain_fits s line (step.Setup b e w a) number mail is = one_fits (SetUp (conf_of b e w a)) is.0 (omega arith) (omega arith)
+plain_fits s line (step.Join c) number mail is = one_fits (Join c) is (omega arith) (omega arith)
+plain_fits s line (step.Crash c) number mail is = one_fits (Crash c) tt (omega arith) (omega arith)
+plain_fits s line (step.Expire k) number mail is = one_fits (End k) is (omega arith) (omega arith)
+plain_fits s line (step.Deliver from to n) number mail is = deliver_fits (place_of s.letters from to n)
+plain_fits s line (step.Sync b) number mail is = one_fits (Commit b) tt (omega arith) (omega arith)
+plain_fits s line (step.Lose b) number mail is = one_fits (Lose b) tt (omega arith) (omega arith)
+plain_fits s line (step.Stop b call kept) number mail is = one_fits (Stop b (is_kept call kept)) tt (omega arith) (omega arith)
+plain_fits s line (step.StopMeta c n call kept) number mail is = stop_fits (is_kept call kept) _
+plain_fits s line (step.Kill x) number mail is = kill_fits x
+plain_fits s line (step.Up x) number mail is = rise_fits x
+plain_fits s line step.Settle number mail is = record { each = tt; few = omega arith; taken = omega arith }
+plain_fits s line step.Mail number mail is =
+    free_line 0 _ (omega arith) (mails_fit (length s.letters) (links s.letters) mail.few (links_fit s.letters mail.links))
+plain_fits s line x number mail is = order_fits line x (client_in x) number is
 
 -- ---- settling
 
@@ -240,20 +242,20 @@ settle_fits s = subst LineFits (sym (failures_aside.settling turn_limit 0 s)) (f
 -- ---- lines
 
 -- the atomic steps of a line, where no device fails
-lucky_fits : (s : State) (line : ℕ) (x : Step) → MailFits s → IsStep x → LineFits (with_luck well 0 (plain_atoms s line x))
-lucky_fits s line x mail is = subst LineFits (sym (failures_aside.steps 0 (plain_atoms s line x))) (plain_fits s line x mail is)
+lucky_fits : (s : State) (line : ℕ) (x : Step) → IsU32 line × IsCountable x → MailFits s → IsStep x → LineFits (with_luck well 0 (plain_atoms s line x))
+lucky_fits s line x number mail is = subst LineFits (sym (failures_aside.steps 0 (plain_atoms s line x))) (plain_fits s line x number mail is)
 
 -- the same of a line that changes something
-busy_fits : (s : State) (line : ℕ) (x : Step) → MailFits s → IsStep x → LineFits (busy_atoms well s line x)
-busy_fits s line step.Settle mail is = settle_fits s
-busy_fits s line x mail is = lucky_fits s line x mail is
+busy_fits : (s : State) (line : ℕ) (x : Step) → IsU32 line × IsCountable x → MailFits s → IsStep x → LineFits (busy_atoms well s line x)
+busy_fits s line step.Settle number mail is = settle_fits s
+busy_fits s line x number mail is = lucky_fits s line x number mail is
 
 -- the atomic steps of a line
-line_fits : (s : State) (line : ℕ) (x : Step) → MailFits s → IsStep x → LineFits (line_atoms well s line x)
+line_fits : (s : State) (line : ℕ) (x : Step) → IsU32 line × IsCountable x → MailFits s → IsStep x → LineFits (line_atoms well s line x)
 unfolding line_atoms
-line_fits s line x mail is =
+line_fits s line x number mail is =
     cond_both LineFits (is_idle s x) (Shows event.Nothing ∷ []) (busy_atoms well s line x) (one_fits (Shows event.Nothing) tt (omega arith) (omega arith))
-    (busy_fits s line x mail is)
+    (busy_fits s line x number mail is)
 
 -- ---- runs
 
@@ -277,19 +279,20 @@ run_grows s line (x ∷ xs) =
 
 -- a run behind so many lines
 run_fits : (n : ℕ) (s : State) (line : ℕ) (xs : List Step) → line ≡ suc n → n + length xs ≤ most_lines → AllByRecursion IsStep xs
-    → length (run s line xs).state.letters ≤ most_messages → StateFits n (line_takings * n) s
+    → AllByRecursion IsCountable xs → length (run s line xs).state.letters ≤ most_messages → StateFits n (line_takings * n) s
     → AllByRecursion FitsAtLine (run s line xs).transcript
 unfolding run step_with
-run_fits n s line [] at few is sent fit = tt
-run_fits n s line (x ∷ xs) at few is sent fit =
+run_fits n s line [] at few is counts sent fit = tt
+run_fits n s line (x ∷ xs) at few is counts sent fit =
     let atoms : List Atom = line_atoms well s line x in
-    let its = line_fits s line x (record { links = fit.letters; few = omega (arith, run_grows s line (x ∷ xs), sent) }) is.0 in
+    let its = line_fits s line x ((omega arith, omega (arith, at, few)), counts.0)
+    (record { links = fit.letters; few = omega (arith, run_grows s line (x ∷ xs), sent) }) is.0 in
     let here : suc n ≤ most_lines = omega (arith, few) in
     let rest : suc n + length xs ≤ most_lines = omega (arith, few) in
     let row = row_behind n s atoms here its fit in
     all-append FitsAtLine (at_line line (events s atoms)) (run (after s atoms) (suc line) xs).transcript
     (numbered_fits line (events s atoms) (omega arith, omega (arith, at, here)) row.shown)
-    (run_fits (suc n) (after s atoms) (suc line) xs (omega (arith, at)) rest is.1 sent row.state)
+    (run_fits (suc n) (after s atoms) (suc line) xs (omega (arith, at)) rest is.1 counts.1 sent row.state)
 
 -- before a setup
 blank_fits : StateFits 0 0 blank
@@ -305,9 +308,9 @@ blank_fits = record {
 }
 
 -- a run from the first line on
-all_fit : (steps : List Step) → AllByRecursion IsStep steps → length steps ≤ most_lines
+all_fit : (steps : List Step) → AllByRecursion IsStep steps → AllByRecursion IsCountable steps → length steps ≤ most_lines
     → length (run blank 1 steps).state.letters ≤ most_messages → AllByRecursion FitsAtLine (transcript steps)
-all_fit steps is few sent = run_fits 0 blank 1 steps refl (omega (arith, few)) is sent blank_fits
+all_fit steps is counts few sent = run_fits 0 blank 1 steps refl (omega (arith, few)) is counts sent blank_fits
 
 -- ---- replays
 
@@ -401,26 +404,31 @@ after_fits g size atoms None rest e few its fit later =
     }))
 
 -- a line of a replay that was read
-read_fits : (g : Going) (line : List ℕ) (read : Result Step ℕ) (rest : Going → Replay) → parsed_line line ≡ read → suc g.lines ≤ most_lines → GoingFits g
-    → ((next : Going) → GoingFits next → FittingText (rest next).text) → FittingText (run_line g (length line) read rest).text
-read_fits g line (Err column) rest e few fit later = no_text
-read_fits g line (Ok x) rest e few fit later =
-    let its = line_fits g.state (suc g.lines) x (record { links = fit.state.letters; few = fit.sent }) (reading_found step_exact line x e).0 in
+read_fits : (g : Going) (line : List ℕ) (read : Result Step ℕ) (rest : Going → Replay) → parsed_line line ≡ read → suc g.lines ≤ most_lines
+    → length line ≤ most_schedule → GoingFits g → ((next : Going) → GoingFits next → FittingText (rest next).text)
+    → FittingText (run_line g (length line) read rest).text
+read_fits g line (Err column) rest e few short fit later = no_text
+read_fits g line (Ok x) rest e few short fit later =
+    let found = reading_found step_exact line x e in
+    let its = line_fits g.state (suc g.lines) x ((omega arith, omega (arith, few)), line_countable x line found.1 short)
+    (record { links = fit.state.letters; few = fit.sent }) found.0 in
     after_fits g (length line) (line_atoms well g.state (suc g.lines) x) (run_atoms g (line_atoms well g.state (suc g.lines) x)).past rest refl few its fit
     later
 
--- a line that is past no limit of the schedule is one of at most so many
-not_past : (g : Going) (line : List ℕ) → past_schedule g line ≡ None → suc g.lines ≤ most_lines
+-- a line that is past no limit of the schedule is one of at most so many, and of at most so many bytes
+not_past : (g : Going) (line : List ℕ) → past_schedule g line ≡ None → (suc g.lines ≤ most_lines) × (length line ≤ most_schedule)
 not_past g line e =
-    let none = (neither (past_where (nat_lt most_lines (suc g.lines)) limit.Lines most_lines)
-    (past_where (nat_lt most_schedule (g.bytes + length line)) limit.Schedule most_schedule) e).0 in
-    ltb-false most_lines (suc g.lines) (not_where (nat_lt most_lines (suc g.lines)) limit.Lines most_lines none)
+    let none = neither (past_where (nat_lt most_lines (suc g.lines)) limit.Lines most_lines)
+    (past_where (nat_lt most_schedule (g.bytes + length line)) limit.Schedule most_schedule) e in
+    let bytes : g.bytes + length line ≤ most_schedule = ltb-false most_schedule (g.bytes + length line)
+    (not_where (nat_lt most_schedule (g.bytes + length line)) limit.Schedule most_schedule none.1) in
+    (ltb-false most_lines (suc g.lines) (not_where (nat_lt most_lines (suc g.lines)) limit.Lines most_lines none.0), omega (arith, bytes))
 
 -- a line of a replay
 take_fits : (g : Going) (line : List ℕ) (past : Option Past) (rest : Going → Replay) → past_schedule g line ≡ past → GoingFits g
     → ((next : Going) → GoingFits next → FittingText (rest next).text) → FittingText (take_line g line past rest).text
 take_fits g line (Some past) rest e fit later = no_text
-take_fits g line None rest e fit later = read_fits g line (parsed_line line) rest refl (not_past g line e) fit later
+take_fits g line None rest e fit later = let within = not_past g line e in read_fits g line (parsed_line line) rest refl within.0 within.1 fit later
 
 -- the replay of lines
 lines_fit : (g : Going) (lines : List (List ℕ)) → GoingFits g → FittingText (replay_from g lines).text

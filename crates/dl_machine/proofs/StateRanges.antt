@@ -1,9 +1,9 @@
 -- The ranges of what a state keeps and an atomic step shows: the clients that have joined, the counts of their records, the entries
 -- that were sent, and the last session.
-use Rattle.std.proofs.Common.{length, ◌≡◌, ℕ, suc, ◌+◌, ◌*◌, ◌-◌, ◌≤◌, Bool, true, false, ◌&&◌, List, [], ◌∷◌, drop, map, Option, Some}
-use Rattle.std.proofs.Common.{None, Result, Ok, Err, refl, arith, slice_get}
+use Rattle.std.proofs.Common.{length, ◌≡◌, ℕ, suc, ◌+◌, ◌*◌, ◌-◌, ◌≤◌, Bool, true, false, cond, ◌&&◌, List, [], ◌∷◌, drop, map, Option, Some}
+use Rattle.std.proofs.Common.{None, Result, Ok, Err, refl, sym, subst, arith, slice_get}
 use Rattle.std.specs.Prelude.{is_none}
-use Rattle.std.specs.List.{AllByRecursion}
+use Rattle.std.specs.List.{AllByRecursion, list_any}
 use Rattle.dl_types.specs.declared.address.Address.{Address}
 use Rattle.dl_types.specs.declared.address.Address.TheVariants.{Client, Bookie as AtBookie, Meta as AtMeta}
 use Rattle.dl_types.specs.declared.meta_answer.MetaAnswer.{MetaAnswer}
@@ -12,13 +12,14 @@ use Rattle.dl_types.specs.declared.one_op.OneOp.{OneOp}
 use Rattle.dl_types.specs.declared.one_op.OneOp.TheVariants.{Create, Delete, Set, Check, Get, Children}
 use Rattle.dl_text.specs.Numbers.{most_u64}
 use Rattle.dl_msg.specs.declared.letter.Letter.{Letter}
+use Rattle.dl_msg.specs.declared.meta_reply.MetaReply.{MetaReply}
 use Rattle.dl_msg.specs.declared.msg.Msg.{Msg}
+use Rattle.dl_msg.specs.declared.msg.Msg.TheVariants as msg
 use Rattle.dl_tree.specs.Trees.{Nodes}
 use Rattle.dl_session.specs.declared.admit.Admit.{Admit}
 use Rattle.dl_session.specs.declared.admit.Admit.TheVariants as admit
 use Rattle.dl_session.specs.Sessions.{is_live, after_connect, after_expiry, after_run}
 use Rattle.dl_formats.specs.declared.conf.Conf.{Conf}
-use Rattle.dl_formats.specs.declared.cut.Cut.{Cut}
 use Rattle.dl_formats.specs.declared.segment.SegmentMeta.{SegmentMeta}
 use Rattle.dl_formats.specs.declared.segment.SegmentMeta.TheVariants.{InProgress, Completed}
 use Rattle.dl_formats.specs.Keys.{path_of}
@@ -32,18 +33,20 @@ use Rattle.dl_rules_client.proofs.NodeRanges.{SegmentFits, segment_such}
 use Rattle.dl_rules_client.proofs.RangeLists.{AllOk}
 use Rattle.dl_formats.specs.declared.fault.MetaBytesFault.{MetaBytesFault}
 use Rattle.dl_formats.specs.Keys as key
-use Rattle.dl_formats.specs.Reading.{cut_at}
 use Rattle.dl_rules_nodes.specs.Bookies.{Bookie, Waiting, Reply, Taken, Looks, Answers, Queues, table_row, answer_now, after, replies_of, after_commit}
-use Rattle.dl_rules_nodes.specs.Items.{MetaItem, Setup, Connect, Expire, Ask}
+use Rattle.dl_rules_nodes.specs.Bookies.{add_row, copy_row, fence_row, lac_of, durable, queued_items, is_fenced, lacking}
+use Rattle.dl_rules_nodes.specs.Bookies.{if_room, with_room, entry_answer, look_answer, told_after, all_items}
+use Rattle.dl_msg.specs.declared.resource.Resource.{Resource}
+use Rattle.dl_rules_nodes.specs.Items.{Item, is_add, is_entry, is_fence, MetaItem, Setup, Connect, Expire, Ask}
 use Rattle.dl_rules_nodes.specs.Metadata.{meta_from, meta_of, does, answer_of, reply_of}
 use Rattle.dl_schedule.specs.declared.step.Step.{Step}
 use Rattle.dl_schedule.specs.StepLines.{IsStep, IsClient, IsBookie, IsCount, IsLink}
 use Rattle.dl_transcript.specs.declared.event.Event.{Event}
 use Rattle.dl_transcript.specs.declared.event.Event.TheVariants as event
-use Rattle.dl_transcript.specs.Ranges.{IsSession}
+use Rattle.dl_transcript.specs.Ranges.{IsU32, IsSession}
 use Rattle.dl_rules_client.specs.Acts.{Input, Line, Came, ClientArgs, Acts, SentEntry, Confirmation}
 use Rattle.dl_rules_client.specs.Clients.{client_of, acts_of}
-use Rattle.dl_rules_client.specs.EventRanges.{LetterFits, FitsItsLine, IsInput, lines_in, set_most, ArgsFit}
+use Rattle.dl_rules_client.specs.EventRanges.{OpFits, MsgFits, LetterFits, FitsItsLine, IsInput, IsCountable, lines_in, set_most, ArgsFit}
 use Rattle.dl_rules_client.proofs.RangeLists.{all-get, AllSome, all-append, all-last, all-take, all-drop, all-map, all-flat}
 use Rattle.dl_rules_client.proofs.LogRanges.{IsRow}
 use Rattle.dl_rules_client.proofs.ClientRanges.{ActsFit, SentFits}
@@ -52,8 +55,8 @@ use Rattle.dl_machine.specs.States.{Node, Mode, Up, Down, Lost, is_up, with_node
 use Rattle.dl_machine.specs.States.{with_letters, with_meta_item, marks, quietly, then_shows}
 use Rattle.dl_machine.specs.States.{can_take, args_of}
 use Rattle.dl_machine.specs.Growth.{closing_of, closing_by, closing_at, first_in, count_in, closing_to, grow_event, entries_to_grow, grown_to, grows}
-use Rattle.dl_machine.specs.Growth.{with_entry, with_sent, confirms, stream_in, Closing, closes}
-use Rattle.dl_machine.specs.Growth.{closing_with, point_events, points_by, is_done, ops_of, shows_op, shows_ops, shows_run}
+use Rattle.dl_machine.specs.Growth.{with_entry, with_sent, confirms, Closing, closes}
+use Rattle.dl_machine.specs.Growth.{closing_with, points_by, is_done, ops_of, shows_op, shows_ops, shows_run}
 use Rattle.dl_machine.specs.Atoms.{commits, answer_to, takes_row, reply_letter, stopped_node, killed_node, risen_node, swapped_node, loosened_node}
 use Rattle.dl_machine.specs.Atoms.{lost_node, Atom}
 use Rattle.dl_machine.specs.Atoms.{SetUp, Join, Crash, End, Order, Deliver, Commit, Stop, StopMeta, Faint, Kill, KillMeta, Rise, RiseMeta, Loosen}
@@ -62,12 +65,14 @@ use Rattle.dl_machine.specs.Atoms.{client_takes, with_answer, bookie_takes, runs
 use Rattle.dl_machine.specs.Atoms.{faints_at, faints, stops_run, stops_request, stops_msg, stops_meta, atom}
 use Rattle.dl_machine.specs.Limits.{most_lines}
 use Rattle.dl_machine.proofs.Movements.{cond_both, put_each}
+use Rattle.dl_machine.proofs.PointRanges.{PointsFit, request_points}
 
 -- ---- states
 
 -- A client that has joined, where at most so many lines were run, and so many lines and letters taken.
 pub record JoinedFits (lines inputs c : ℕ) (me : Joined) : Type 0 where
   pub number : IsClient c
+  pub session : IsSession me.session
   pub view : AllByRecursion IsInput me.view
   pub few : length me.view ≤ inputs
   pub calls : me.calls + set_most * lines_in me.view ≤ set_most * lines
@@ -78,7 +83,7 @@ ConfFits conf = IsCount conf.b
 
 -- a reply that waits is one of a storage node to a client
 abbrev pub WaitingFits : ℕ → Waiting → Type 0
-WaitingFits b w = IsBookie b × IsClient w.client
+WaitingFits b w = IsBookie b × (IsClient w.client × MsgFits w.reply)
 
 -- the replies that wait at a storage node
 abbrev pub QueueFits : ℕ → Bookie → Type 0
@@ -114,7 +119,7 @@ pub record OutcomeFits (lines inputs : ℕ) (o : Outcome) : Type 0 where
 joined_more : (n m i j c : ℕ) (me : Option Joined) → n ≤ m → i ≤ j → AllSome (JoinedFits n i c) me → AllSome (JoinedFits m j c) me
 joined_more n m i j c None h g fit = tt
 joined_more n m i j c (Some me) h g fit =
-    record { number = fit.number; view = fit.view; few = omega (arith, g, fit.few); calls = omega (arith, h, fit.calls) }
+    record { number = fit.number; session = fit.session; view = fit.view; few = omega (arith, g, fit.few); calls = omega (arith, h, fit.calls) }
 
 -- a state behind lines more
 pub state_more : (n m i j : ℕ) (s : State) → n ≤ m → i ≤ j → StateFits n i s → StateFits m j s
@@ -232,35 +237,21 @@ closes_fit n i s (Some x) is fit =
     then_fits n i (grows s x.ledger x.count) (event.Closed x.stream x.segment ∷ []) (grows_fit n i s x.ledger x.count fit)
     ((omega arith, omega (arith, is)), tt)
 
--- the point of a stream
-point_fits : (stream : Option (List ℕ)) (cut : Result Cut MetaBytesFault) → AllByRecursion FitsItsLine (point_events stream cut)
-point_fits None cut = tt
-point_fits (Some stream) (Err fault) = tt
-point_fits (Some stream) (Ok cut) = (tt, tt)
-
--- the points of an operation
-points_fit : (x : OneOp) → AllByRecursion FitsItsLine (points_by x)
-points_fit (Create path bytes mode) = tt
-points_fit (Delete path version) = tt
-points_fit (Set path bytes version) = point_fits (stream_in key.Cut path) (cut_at bytes)
-points_fit (Check path version) = tt
-points_fit (Get path) = tt
-points_fit (Children path) = tt
-
 -- what operations show
-ops_fit : (n i : ℕ) (t : Nodes) (xs : List OneOp) (s : State) → StateFits n i s → OutcomeFits n i (shows_ops t xs s)
-ops_fit n i t [] s fit = quietly_fits n i s fit
-ops_fit n i t (x ∷ xs) s fit =
+ops_fit : (n i : ℕ) (t : Nodes) (xs : List OneOp) (s : State) → AllByRecursion PointsFit xs → StateFits n i s → OutcomeFits n i (shows_ops t xs s)
+ops_fit n i t [] s is fit = quietly_fits n i s fit
+ops_fit n i t (x ∷ xs) s is fit =
     let now : Outcome = shows_op t x s in
     let shown : OutcomeFits n i now =
-    then_fits n i (closes s (closing_with t x)) (points_by x) (closes_fit n i s (closing_with t x) (closing_with_fits t x) fit) (points_fit x) in
-    let later : OutcomeFits n i (shows_ops t xs now.state) = ops_fit n i t xs now.state shown.state in
+    then_fits n i (closes s (closing_with t x)) (points_by x) (closes_fit n i s (closing_with t x) (closing_with_fits t x) fit) is.0 in
+    let later : OutcomeFits n i (shows_ops t xs now.state) = ops_fit n i t xs now.state is.1 shown.state in
     record { state = later.state; events = all-append FitsItsLine now.events (shows_ops t xs now.state).events shown.events later.events }
 
 -- what a request shows
-run_fits : (n i : ℕ) (t : Nodes) (op : MetaOp) (a : MetaAnswer) (s : State) → StateFits n i s → OutcomeFits n i (shows_run t op a s)
-run_fits n i t op a s fit =
-    cond_both (OutcomeFits n i) (is_done a) (shows_ops t (ops_of op) s) (quietly s) (ops_fit n i t (ops_of op) s fit) (quietly_fits n i s fit)
+run_fits : (n i : ℕ) (t : Nodes) (op : MetaOp) (a : MetaAnswer) (s : State) → OpFits op → StateFits n i s → OutcomeFits n i (shows_run t op a s)
+run_fits n i t op a s is fit =
+    let each : AllByRecursion PointsFit (ops_of op) = subst (λ x. AllByRecursion PointsFit (ops_of x)) (sym is.same) (request_points is.request is.fits) in
+    cond_both (OutcomeFits n i) (is_done a) (shows_ops t (ops_of op) s) (quietly s) (ops_fit n i t (ops_of op) s each fit) (quietly_fits n i s fit)
 
 -- ---- clients
 
@@ -285,23 +276,25 @@ acts_fit n more m i s c me x acts h is did fit =
 
 -- what a client is started with
 args_fit : (n c : ℕ) (conf : Conf) (me : Joined) (view : List Input) → ConfFits conf → n ≤ most_lines → length view ≤ most_u64 → IsClient c
-    → me.calls + set_most * lines_in view ≤ set_most * n → ArgsFit (lines_in view) (length view) (args_of conf c me)
-args_fit n c conf me view world few counted number calls = record { number = number; count = world; calls = omega (arith, few, calls); counted = counted }
+    → IsSession me.session → me.calls + set_most * lines_in view ≤ set_most * n → ArgsFit (lines_in view) (length view) (args_of conf c me)
+args_fit n c conf me view world few counted number session calls =
+    record { number = number; session = session; count = world; calls = omega (arith, few, calls); counted = counted }
 
 -- a client takes a line
-line_fits : (n i : ℕ) (s : State) (c : ℕ) (conf : Option Conf) (me : Option Joined) (line : ℕ) (x : Step) → suc n ≤ most_lines → suc i ≤ most_u64 → IsStep x
-    → AllSome ConfFits conf → AllSome (JoinedFits n i c) me → StateFits n i s → OutcomeFits (suc n) (suc i) (client_takes s c conf me (Line line x))
+line_fits : (n i : ℕ) (s : State) (c : ℕ) (conf : Option Conf) (me : Option Joined) (line : ℕ) (x : Step) → suc n ≤ most_lines → suc i ≤ most_u64
+    → IsU32 line × (IsStep x × IsCountable x) → AllSome ConfFits conf → AllSome (JoinedFits n i c) me → StateFits n i s
+    → OutcomeFits (suc n) (suc i) (client_takes s c conf me (Line line x))
 line_fits n i s c (Some conf) (Some me) line x few small is world mine fit =
     let view : List Input = Line line x ∷ me.view in
     let who : ClientArgs = args_of conf c me in
     let calls : me.calls + set_most * lines_in view ≤ set_most * suc n = omega (arith, mine.calls) in
     let inputs : length view ≤ suc i = omega (arith, mine.few) in
-    let args = args_fit (suc n) c conf me view world few (omega (arith, inputs, small)) mine.number calls in
+    let args = args_fit (suc n) c conf me view world few (omega (arith, inputs, small)) mine.number mine.session calls in
     let now =
     client_fits who me.view (fewer who (lines_in me.view) (lines_in view) (length me.view) (length view) (omega arith) (omega arith) args) mine.view in
     let move = taken_line_fits who (lines_in me.view) (length me.view) (client_of who me.view) line x args is now in
     acts_fit n 1 (suc n) i s c me (Line line x) (acts_of who me.view (Line line x)) (omega arith)
-    (record { number = mine.number; view = (is, mine.view); few = inputs; calls = calls }) move.acts fit
+    (record { number = mine.number; session = mine.session; view = (is, mine.view); few = inputs; calls = calls }) move.acts fit
 line_fits n i s c (Some conf) None line x few small is world mine fit =
     quietly_fits (suc n) (suc i) s (state_more n (suc n) i (suc i) s (omega arith) (omega arith) fit)
 line_fits n i s c None me line x few small is world mine fit =
@@ -312,20 +305,20 @@ unheard_fits : (n i : ℕ) (s : State) → StateFits n i s → StateFits n (suc 
 unheard_fits n i s fit = state_more n n i (suc i) s (omega arith) (omega arith) fit
 
 -- a client takes a letter
-letter_fits : (n i : ℕ) (s : State) (c : ℕ) (conf : Option Conf) (me : Option Joined) (l : Letter) → n ≤ most_lines → suc i ≤ most_u64
+letter_fits : (n i : ℕ) (s : State) (c : ℕ) (conf : Option Conf) (me : Option Joined) (l : Letter) → n ≤ most_lines → suc i ≤ most_u64 → LetterFits l
     → AllSome ConfFits conf → AllSome (JoinedFits n i c) me → StateFits n i s → OutcomeFits n (suc i) (client_takes s c conf me (Came l))
-letter_fits n i s c (Some conf) (Some me) l few small world mine fit =
+letter_fits n i s c (Some conf) (Some me) l few small link world mine fit =
     let view : List Input = Came l ∷ me.view in
     let who : ClientArgs = args_of conf c me in
     let inputs : length view ≤ suc i = omega (arith, mine.few) in
-    let args = args_fit n c conf me view world few (omega (arith, inputs, small)) mine.number mine.calls in
+    let args = args_fit n c conf me view world few (omega (arith, inputs, small)) mine.number mine.session mine.calls in
     let now =
     client_fits who me.view (fewer who (lines_in me.view) (lines_in view) (length me.view) (length view) (omega arith) (omega arith) args) mine.view in
-    let move = taken_letter_fits who (lines_in me.view) (length me.view) (client_of who me.view) l args now in
+    let move = taken_letter_fits who (lines_in me.view) (length me.view) (client_of who me.view) l args link now in
     acts_fit n 0 n i s c me (Came l) (acts_of who me.view (Came l)) (omega arith)
-    (record { number = mine.number; view = (tt, mine.view); few = inputs; calls = mine.calls }) move.acts fit
-letter_fits n i s c (Some conf) None l few small world mine fit = quietly_fits n (suc i) s (unheard_fits n i s fit)
-letter_fits n i s c None me l few small world mine fit = quietly_fits n (suc i) s (unheard_fits n i s fit)
+    (record { number = mine.number; session = mine.session; view = (link, mine.view); few = inputs; calls = mine.calls }) move.acts fit
+letter_fits n i s c (Some conf) None l few small link world mine fit = quietly_fits n (suc i) s (unheard_fits n i s fit)
+letter_fits n i s c None me l few small link world mine fit = quietly_fits n (suc i) s (unheard_fits n i s fit)
 
 -- ---- the metadata node
 
@@ -363,16 +356,16 @@ item_fits n i s x e fit = record {
 }
 
 -- a request runs
-runs_fit : (n i : ℕ) (s : State) (r : MetaRequest) → StateFits n i s → OutcomeFits n i (runs s r)
-runs_fit n i s r fit =
-    run_fits n i (meta_in s).tree r.op (answer_of (meta_in s) r.session r.op) (with_meta_item s (Ask r.session r.number r.op))
+runs_fit : (n i : ℕ) (s : State) (r : MetaRequest) → OpFits r.op → StateFits n i s → OutcomeFits n i (runs s r)
+runs_fit n i s r is fit =
+    run_fits n i (meta_in s).tree r.op (answer_of (meta_in s) r.session r.op) (with_meta_item s (Ask r.session r.number r.op)) is
     (item_fits n i s (Ask r.session r.number r.op) (ask_last s.meta.items r.session r.number r.op) fit)
 
 -- a request is admitted
-admits_fit : (n i : ℕ) (s : State) (r : MetaRequest) (a : Admit) → StateFits n i s → OutcomeFits n i (admits s r a)
-admits_fit n i s r admit.Run fit = runs_fit n i s r fit
-admits_fit n i s r admit.Old fit = quietly_fits n i s fit
-admits_fit n i s r admit.Expired fit = quietly_fits n i s fit
+admits_fit : (n i : ℕ) (s : State) (r : MetaRequest) (a : Admit) → OpFits r.op → StateFits n i s → OutcomeFits n i (admits s r a)
+admits_fit n i s r admit.Run is fit = runs_fit n i s r is fit
+admits_fit n i s r admit.Old is fit = quietly_fits n i s fit
+admits_fit n i s r admit.Expired is fit = quietly_fits n i s fit
 
 -- letters more
 letters_more : (n i : ℕ) (s : State) (letters : List Letter) → AllByRecursion LetterFits letters → StateFits n i s → StateFits n i (with_letters s letters)
@@ -411,49 +404,146 @@ link_back AtMeta (AtBookie b) is = is
 link_back AtMeta AtMeta is = is
 
 -- an answer more
-answer_fits : (n i : ℕ) (s : State) (l : Letter) (reply : Option Msg) → LetterFits l → StateFits n i s → StateFits n i (with_answer s l reply)
-answer_fits n i s l None link fit = fit
-answer_fits n i s l (Some reply) link fit =
-    letters_more n i s (answer_to l reply ∷ []) (link_back l.from l.to link, tt) fit
+answer_fits : (n i : ℕ) (s : State) (l : Letter) (reply : Option Msg) → LetterFits l → AllSome MsgFits reply → StateFits n i s
+    → StateFits n i (with_answer s l reply)
+answer_fits n i s l None link is fit = fit
+answer_fits n i s l (Some reply) link is fit =
+    letters_more n i s (answer_to l reply ∷ []) ((link_back l.from l.to link.0, is), tt) fit
+
+-- the operation of a request
+abbrev AsksFit : MetaRequest → Type 0
+AsksFit r = OpFits r.op
+
+-- the request that a message is
+asked_fits : (m : Msg) → MsgFits m → AllSome AsksFit (request_in m)
+asked_fits (msg.MetaAsk session number op) is = is
+asked_fits m is = tt
+
+-- a reply asks for nothing
+replied_fits : (r : MetaRequest) (reply : Option MetaReply) → AllSome MsgFits (reply_msg r reply)
+replied_fits r None = tt
+replied_fits r (Some reply) = tt
 
 -- the metadata node takes a letter
-meta_fits : (n i : ℕ) (s : State) (l : Letter) (r : Option MetaRequest) → LetterFits l → StateFits n i s → OutcomeFits n i (meta_takes s l r)
-meta_fits n i s l None link fit = quietly_fits n i s fit
-meta_fits n i s l (Some r) link fit =
-    let now = admits_fit n i s r (admit_in s r) fit in
+meta_fits : (n i : ℕ) (s : State) (l : Letter) (r : Option MetaRequest) → LetterFits l → AllSome AsksFit r → StateFits n i s
+    → OutcomeFits n i (meta_takes s l r)
+meta_fits n i s l None link is fit = quietly_fits n i s fit
+meta_fits n i s l (Some r) link is fit =
+    let now = admits_fit n i s r (admit_in s r) is fit in
     record {
-      state = answer_fits n i (admits s r (admit_in s r)).state l (reply_msg r (reply_of (meta_in s) r.session r.number r.op)) link now.state;
+      state = answer_fits n i (admits s r (admit_in s r)).state l (reply_msg r (reply_of (meta_in s) r.session r.number r.op)) link
+          (replied_fits r (reply_of (meta_in s) r.session r.number r.op)) now.state;
       events = now.events;
     }
 
 -- ---- letters
 
+-- what a storage node replies asks for nothing
+abbrev TakenFits : Taken → Type 0
+TakenFits Looks = Unit {0}
+TakenFits (Answers reply) = MsgFits reply
+TakenFits (Queues reply item) = MsgFits reply
+
+-- a reply waits, unless something lacks
+if_room_fits : (l : ℕ) (entry : Option ℕ) (reply : Msg) (item : Option Item) (what : Option Resource) → MsgFits reply
+    → TakenFits (if_room l entry reply item what)
+if_room_fits l entry reply item None is = is
+if_room_fits l entry reply item (Some what) is = tt
+
+-- the same of a row
+room_fits : (k : Bookie) (l : ℕ) (entry : Option ℕ) (row : Taken) → TakenFits row → TakenFits (with_room k l entry row)
+room_fits k l entry Looks is = tt
+room_fits k l entry (Answers reply) is = is
+room_fits k l entry (Queues reply item) is = if_room_fits l entry reply item (lacking k l entry item) is
+
+-- an entry of a writer, by the tests of its row
+add_fits : (l e : ℕ) (stored fenced queued shut : Bool) (item : Option Item) → TakenFits (cond stored (Answers (msg.AddOk l e))
+    (cond fenced (Answers (msg.AddFenced l e)) (cond queued (Queues (msg.AddOk l e) None)
+    (cond shut (Queues (msg.AddFenced l e) None) (Queues (msg.AddOk l e) item)))))
+add_fits l e true fenced queued shut item = tt
+add_fits l e false true queued shut item = tt
+add_fits l e false false true shut item = tt
+add_fits l e false false false true item = tt
+add_fits l e false false false false item = tt
+
+-- an entry of a recovery
+copy_fits : (t l e : ℕ) (stored queued : Bool) (item : Option Item)
+    → TakenFits (cond stored (Answers (msg.CopyOk t l e)) (cond queued (Queues (msg.CopyOk t l e) None) (Queues (msg.CopyOk t l e) item)))
+copy_fits t l e true queued item = tt
+copy_fits t l e false true item = tt
+copy_fits t l e false false item = tt
+
+-- a fence
+fence_fits : (k : Bookie) (t l : ℕ) (fenced queued : Bool) (item : Option Item)
+    → TakenFits (cond fenced (Answers (lac_of k t l)) (cond queued (Queues (msg.LacIs t l true 0) None) (Queues (msg.LacIs t l true 0) item)))
+fence_fits k t l true queued item = tt
+fence_fits k t l false true item = tt
+fence_fits k t l false false item = tt
+
+-- what a message does
+table_fits : (k : Bookie) (m : Msg) → TakenFits (table_row k m)
+unfolding table_row
+table_fits k (msg.Add l e n bytes) =
+    room_fits k l (Some e) (add_row k l e n bytes)
+    (add_fits l e (list_any (is_add l e) (durable k)) (is_fenced k l) (list_any (is_add l e) (queued_items k)) (list_any (is_fence l) (queued_items k)) _)
+table_fits k (msg.Copy t l e n bytes) =
+    room_fits k l (Some e) (copy_row k t l e n bytes)
+    (copy_fits t l e (list_any (is_entry l e) (durable k)) (list_any (is_entry l e) (queued_items k)) _)
+table_fits k (msg.AskLac t l true) = room_fits k l None (fence_row k t l)
+    (fence_fits k t l (is_fenced k l) (list_any (is_fence l) (queued_items k)) _)
+table_fits k m = tt
+
+-- the answer to an asked entry
+entry_fits : (k : Bookie) (t l e : ℕ) (x : Option Item) → MsgFits (entry_answer k t l e x)
+entry_fits k t l e None = tt
+entry_fits k t l e (Some x) = tt
+
+-- the answer from the durable list
+look_fits : (k : Bookie) (m : Msg) → MsgFits m → MsgFits (look_answer k m)
+unfolding look_answer
+look_fits k (msg.AskLac t l f) is = tt
+look_fits k (msg.AskEntry t l e) is = entry_fits k t l e _
+look_fits k m is = is
+
+-- the answer that leaves at once
+now_fits : (k : Bookie) (m : Msg) (row : Taken) → MsgFits m → TakenFits row → AllSome MsgFits (answer_now k m row)
+now_fits k m Looks asked is = look_fits k m asked
+now_fits k m (Answers reply) asked is = is
+now_fits k m (Queues reply item) asked is = tt
+
+-- a count that is told after a batch
+told_fits : (items : List Item) (m : Msg) → MsgFits m → MsgFits (told_after items m)
+told_fits items (msg.LacIs t l f n) is = tt
+told_fits items m is = is
+
 -- a storage node after a message of a client
-after_fits : (b : ℕ) (k : Bookie) (c session : ℕ) (row : Taken) → IsBookie b → IsClient c → QueueFits b k → QueueFits b (after k c session row)
-after_fits b k c session (Queues reply item) here who fit = all-last (WaitingFits b) k.queue _ fit (here, who)
-after_fits b k c session (Answers reply) here who fit = fit
-after_fits b k c session Looks here who fit = fit
+after_fits : (b : ℕ) (k : Bookie) (c session : ℕ) (row : Taken) → IsBookie b → IsClient c → TakenFits row → QueueFits b k
+    → QueueFits b (after k c session row)
+after_fits b k c session (Queues reply item) here who is fit = all-last (WaitingFits b) k.queue _ fit (here, (who, is))
+after_fits b k c session (Answers reply) here who is fit = fit
+after_fits b k c session Looks here who is fit = fit
 
 -- a storage node takes a message
-row_fits : (n i : ℕ) (s : State) (l : Letter) (b c : ℕ) (row : Taken) → LetterFits l → IsClient c × IsBookie b → StateFits n i s
+row_fits : (n i : ℕ) (s : State) (l : Letter) (b c : ℕ) (row : Taken) → LetterFits l → TakenFits row → IsClient c × IsBookie b → StateFits n i s
     → StateFits n i (takes_row s l b c row)
-row_fits n i s l b c row link ends fit =
+row_fits n i s l b c row link is ends fit =
     let k : Bookie = (s.nodes b).bookie in
     let own = fit.nodes b in
-    answer_fits n i (with_bookie s b (after k c l.session row)) l (answer_now k l.msg row) link
+    answer_fits n i (with_bookie s b (after k c l.session row)) l (answer_now k l.msg row) link (now_fits k l.msg row link.1 is)
     (node_fits n i s b (record (s.nodes b) { bookie = after k c l.session row })
-    (record { bookie = after_fits b k c l.session row ends.1 ends.0 own.bookie; other = own.other }) fit)
+    (record { bookie = after_fits b k c l.session row ends.1 ends.0 is own.bookie; other = own.other }) fit)
 
 -- a letter is taken
 taken_fits : (n i : ℕ) (s : State) (l : Letter) (to from : Address) → n ≤ most_lines → suc i ≤ most_u64 → LetterFits l → IsLink from to → StateFits n i s
     → OutcomeFits n (suc i) (takes_letter s l to from)
 taken_fits n i s l (AtBookie b) (Client c) few small link ends fit =
-    quietly_fits n (suc i) (bookie_takes s l b c) (row_fits n (suc i) s l b c (table_row (s.nodes b).bookie l.msg) link ends (unheard_fits n i s fit))
+    quietly_fits n (suc i) (bookie_takes s l b c) (row_fits n (suc i) s l b c (table_row (s.nodes b).bookie l.msg) link
+    (table_fits (s.nodes b).bookie l.msg) ends (unheard_fits n i s fit))
 taken_fits n i s l (AtBookie b) (AtBookie d) few small link ends fit = quietly_fits n (suc i) s (unheard_fits n i s fit)
 taken_fits n i s l (AtBookie b) AtMeta few small link ends fit = quietly_fits n (suc i) s (unheard_fits n i s fit)
-taken_fits n i s l AtMeta from few small link ends fit = meta_fits n (suc i) s l (request_in l.msg) link (unheard_fits n i s fit)
+taken_fits n i s l AtMeta from few small link ends fit = meta_fits n (suc i) s l (request_in l.msg) link (asked_fits l.msg link.1) (unheard_fits n i s fit)
 taken_fits n i s l (Client c) from few small link ends fit =
-    letter_fits n i s c s.conf (s.clients c) l few small fit.conf (fit.joined c) fit
+    letter_fits n i s c s.conf (s.clients c) l few small link fit.conf (fit.joined c) fit
 
 -- a letter is delivered
 deliver_fits : (n i : ℕ) (s : State) (place : ℕ) (l : Option Letter) → n ≤ most_lines → suc i ≤ most_u64 → AllSome LetterFits l → StateFits n i s
@@ -461,7 +551,7 @@ deliver_fits : (n i : ℕ) (s : State) (place : ℕ) (l : Option Letter) → n �
 deliver_fits n i s place None few small link fit = quietly_fits n (suc i) s (unheard_fits n i s fit)
 deliver_fits n i s place (Some l) few small link fit =
     cond_both (OutcomeFits n (suc i)) (can_take s l l.to) (takes_letter (marks s place) l l.to l.from) (quietly s)
-    (taken_fits n i (marks s place) l l.to l.from few small link link fit) (quietly_fits n (suc i) s (unheard_fits n i s fit))
+    (taken_fits n i (marks s place) l l.to l.from few small link link.0 fit) (quietly_fits n (suc i) s (unheard_fits n i s fit))
 
 -- ---- storage nodes
 
@@ -494,8 +584,9 @@ loosened_fits b x Lost other fit = fit
 -- the letters of replies that waited
 replies_fit : (b : ℕ) (k : Bookie) → QueueFits b k → AllByRecursion LetterFits (map (reply_letter b) (replies_of k))
 replies_fit b k fit =
-    all-map (λ (r : Reply). IsBookie b × IsClient r.client) LetterFits (reply_letter b) (λ r is. is) (replies_of k)
-    (all-map (WaitingFits b) (λ (r : Reply). IsBookie b × IsClient r.client) _ (λ w is. is) k.queue fit)
+    all-map (λ (r : Reply). IsBookie b × (IsClient r.client × MsgFits r.msg)) LetterFits (reply_letter b) (λ r is. ((is.0, is.1.0), is.1.1)) (replies_of k)
+    (all-map (WaitingFits b) (λ (r : Reply). IsBookie b × (IsClient r.client × MsgFits r.msg)) _
+    (λ w is. (is.0, (is.1.0, told_fits (all_items k) w.reply is.1.1))) k.queue fit)
 
 -- a storage node commits its queue
 commits_fit : (n i : ℕ) (s : State) (b : ℕ) → StateFits n i s → StateFits n i (commits s b)
@@ -519,27 +610,30 @@ faint_fits n i s place (Some l) fit =
     cond_both (StateFits n i) (can_take s l l.to) (faints_at (marks s place) l.to) s (faint_at_fits n i (marks s place) l.to fit) fit
 
 -- the commit of a request stops
-stop_run_fits : (n i : ℕ) (s : State) (r : MetaRequest) (kept : Bool) → StateFits n i s → OutcomeFits n i (stops_run s r kept)
-stop_run_fits n i s r true fit = let now = runs_fit n i s r fit in record { state = now.state; events = now.events }
-stop_run_fits n i s r false fit = record { state = fit; events = tt }
+stop_run_fits : (n i : ℕ) (s : State) (r : MetaRequest) (kept : Bool) → OpFits r.op → StateFits n i s → OutcomeFits n i (stops_run s r kept)
+stop_run_fits n i s r true is fit = let now = runs_fit n i s r is fit in record { state = now.state; events = now.events }
+stop_run_fits n i s r false is fit = record { state = fit; events = tt }
 
 -- the same of a request that is admitted so
-stop_request_fits : (n i : ℕ) (s : State) (place : ℕ) (r : MetaRequest) (kept : Bool) (a : Admit) → StateFits n i s
+stop_request_fits : (n i : ℕ) (s : State) (place : ℕ) (r : MetaRequest) (kept : Bool) (a : Admit) → OpFits r.op → StateFits n i s
     → OutcomeFits n i (stops_request s place r kept a)
-stop_request_fits n i s place r kept admit.Run fit = stop_run_fits n i (marks s place) r kept fit
-stop_request_fits n i s place r kept admit.Old fit = quietly_fits n i s fit
-stop_request_fits n i s place r kept admit.Expired fit = quietly_fits n i s fit
+stop_request_fits n i s place r kept admit.Run is fit = stop_run_fits n i (marks s place) r kept is fit
+stop_request_fits n i s place r kept admit.Old is fit = quietly_fits n i s fit
+stop_request_fits n i s place r kept admit.Expired is fit = quietly_fits n i s fit
 
 -- the same of a message
-stop_msg_fits : (n i : ℕ) (s : State) (place : ℕ) (kept : Bool) (r : Option MetaRequest) → StateFits n i s → OutcomeFits n i (stops_msg s place kept r)
-stop_msg_fits n i s place kept None fit = quietly_fits n i s fit
-stop_msg_fits n i s place kept (Some r) fit = stop_request_fits n i s place r kept (admit_in s r) fit
+stop_msg_fits : (n i : ℕ) (s : State) (place : ℕ) (kept : Bool) (r : Option MetaRequest) → AllSome AsksFit r → StateFits n i s
+    → OutcomeFits n i (stops_msg s place kept r)
+stop_msg_fits n i s place kept None is fit = quietly_fits n i s fit
+stop_msg_fits n i s place kept (Some r) is fit = stop_request_fits n i s place r kept (admit_in s r) is fit
 
 -- the same of the letter at a place
-stop_meta_fits : (n i : ℕ) (s : State) (place : ℕ) (kept : Bool) (l : Option Letter) → StateFits n i s → OutcomeFits n i (stops_meta s place kept l)
-stop_meta_fits n i s place kept None fit = quietly_fits n i s fit
-stop_meta_fits n i s place kept (Some l) fit =
-    cond_both (OutcomeFits n i) s.meta_up (stops_msg s place kept (request_in l.msg)) (quietly s) (stop_msg_fits n i s place kept (request_in l.msg) fit)
+stop_meta_fits : (n i : ℕ) (s : State) (place : ℕ) (kept : Bool) (l : Option Letter) → AllSome LetterFits l → StateFits n i s
+    → OutcomeFits n i (stops_meta s place kept l)
+stop_meta_fits n i s place kept None link fit = quietly_fits n i s fit
+stop_meta_fits n i s place kept (Some l) link fit =
+    cond_both (OutcomeFits n i) s.meta_up (stops_msg s place kept (request_in l.msg)) (quietly s)
+    (stop_msg_fits n i s place kept (request_in l.msg) (asked_fits l.msg link.1) fit)
     (quietly_fits n i s fit)
 
 -- ---- sessions
@@ -558,7 +652,13 @@ join_fits n i s c few number fit =
         nodes = later.nodes;
         letters = later.letters;
         joined = put_each s.clients c process (λ j p. AllSome (JoinedFits (suc n) i j) p)
-            (record { number = number; view = tt; few = omega arith; calls = omega (arith, later.calls c) }) later.joined;
+            (record {
+              number = number;
+              session = (omega arith, omega (arith, few, fit.sessions));
+              view = tt;
+              few = omega arith;
+              calls = omega (arith, later.calls c);
+            }) later.joined;
         calls = later.calls;
         ledgers = later.ledgers;
         sessions = omega (arith, last, fit.sessions);
@@ -609,7 +709,7 @@ IsAtom (SetUp conf) = ConfFits conf
 IsAtom (Join c) = IsClient c
 IsAtom (Crash c) = Unit {0}
 IsAtom (End k) = IsSession k
-IsAtom (Order c line x) = IsStep x
+IsAtom (Order c line x) = IsU32 line × (IsStep x × IsCountable x)
 IsAtom (Deliver place) = Unit {0}
 IsAtom (Commit b) = Unit {0}
 IsAtom (Stop b kept) = Unit {0}
@@ -693,7 +793,8 @@ atom_fits n m i j s (Stop b kept) h g few small is fit =
     still_fits n i m j _ (omega (arith, h)) (omega (arith, g))
     (node_fits n i s b (stopped_node (s.nodes b) kept) (stopped_fits b (s.nodes b) kept (fit.nodes b)) fit) tt
 atom_fits n m i j s (StopMeta place kept) h g few small is fit =
-    outcome_more n m i j _ (omega (arith, h)) (omega (arith, g)) (stop_meta_fits n i s place kept (slice_get s.letters place) fit)
+    outcome_more n m i j _ (omega (arith, h)) (omega (arith, g)) (stop_meta_fits n i s place kept (slice_get s.letters place)
+    (all-get LetterFits s.letters place fit.letters) fit)
 atom_fits n m i j s (Faint place) h g few small is fit =
     still_fits n i m j _ (omega (arith, h)) (omega (arith, g)) (faint_fits n i s place (slice_get s.letters place) fit) tt
 atom_fits n m i j s (Kill b) h g few small is fit =

@@ -1,6 +1,6 @@
 -- The ranges of what a client keeps and shows: its order under way, its writer, its reader, and its events.
 use Rattle.std.proofs.Common.{ℕ, ◌+◌, ◌*◌, ◌≤◌, Bool, true, false, List, Option, Some, None, suc, length}
-use Rattle.std.proofs.Common.{arith}
+use Rattle.std.proofs.Common.{arith, refl}
 use Rattle.std.specs.List.{AllByRecursion}
 use Rattle.dl_types.specs.declared.refusal.Refusal.{Refusal}
 use Rattle.dl_types.specs.declared.start.Start.{Start}
@@ -10,7 +10,7 @@ use Rattle.dl_text.specs.PlaceFields.{IsPlaceFrom}
 use Rattle.dl_msg.specs.declared.letter.Letter.{Letter}
 use Rattle.dl_schedule.specs.StepLines.{IsCount, IsClient, IsTxid}
 use Rattle.dl_transcript.specs.declared.event.Event.{Event}
-use Rattle.dl_transcript.specs.Ranges.{IsU64}
+use Rattle.dl_transcript.specs.Ranges.{IsU32, IsU64}
 use Rattle.dl_rules_stream.specs.Orders.{Next, Wait, Ask, Tell, Done, Refused}
 use Rattle.dl_rules_client.specs.Acts.{ClientArgs, SentEntry, Acts, no_acts, with_letters, with_event, shows}
 use Rattle.dl_rules_client.specs.Views.{reader_now, Doing, Makes, Removes, Opens, Recovers, Commits, Confirms, Closes, Seeks, Reads, Truncates, Purges, Order}
@@ -19,7 +19,7 @@ use Rattle.dl_rules_client.specs.Moves.{told_letter, told_letters, refusal_event
 use Rattle.dl_rules_client.specs.Moves.{waits, goes_on}
 use Rattle.dl_rules_stream.specs.Recovers.{recover_stage}
 use Rattle.dl_rules_stream.specs.Opens.{open_stage}
-use Rattle.dl_rules_client.specs.EventRanges.{FitsItsLine, LetterFits, set_most}
+use Rattle.dl_rules_client.specs.EventRanges.{RefusalFits, FitsItsLine, LetterFits, set_most}
 use Rattle.dl_rules_client.proofs.RangeLists.{all-append, all-map, AllSome, all-last}
 use Rattle.dl_rules_client.proofs.LogRanges.{IsRow, LogFits, log_more}
 use Rattle.dl_rules_client.proofs.NextRanges.{NextFits}
@@ -47,17 +47,19 @@ DoingFits me k o Confirms = Unit {0}
 DoingFits me k o (Closes args heard) = Unit {0}
 DoingFits me k o (Seeks from heard) = StartFits from
 DoingFits me k o Reads = Unit {0}
-DoingFits me k o (Truncates to heard) = IsPlaceFrom 0 to
+DoingFits me k o (Truncates to heard) = IsPlaceFrom 1 to
 DoingFits me k o (Purges heard) = length heard ≤ k
 
 -- An order, where at most so many lines and letters were taken.
 pub record OrderFits (me : ClientArgs) (k : ℕ) (o : Order) : Type 0 where
   pub stream : IsName o.stream
+  pub line : IsU32 o.line
   pub doing : DoingFits me k o o.doing
 
 -- A writer, where at most so many lines were taken.
 pub record WriterFits (n : ℕ) (w : WriterView) : Type 0 where
   pub stream : IsName w.stream
+  pub line : IsU32 w.line
   pub segment : IsU64 w.opened.segment
   pub log : LogFits (set_most * n) (2 * n) (log_now w)
 
@@ -99,6 +101,7 @@ writer_more : (n m : ℕ) → n ≤ m → (w : Option WriterView) → AllSome (W
 writer_more n m h None fit = tt
 writer_more n m h (Some w) fit = record {
   stream = fit.stream;
+  line = fit.line;
   segment = fit.segment;
   log = log_more (set_most * n) (set_most * m) (2 * n) (2 * m) (log_now w) (omega (arith, h)) (omega (arith, h)) fit.log;
 }
@@ -130,7 +133,7 @@ order_later me k o (Purges heard) is = omega (arith, is)
 -- the same, where there is one
 pub some_later : (me : ClientArgs) (k : ℕ) (o : Option Order) → AllSome (OrderFits me k) o → AllSome (OrderFits me (suc k)) o
 some_later me k None is = tt
-some_later me k (Some o) is = record { stream = is.stream; doing = order_later me k o o.doing is.doing }
+some_later me k (Some o) is = record { stream = is.stream; line = is.line; doing = order_later me k o o.doing is.doing }
 
 -- a client behind a line or a letter more
 pub now_later : (me : ClientArgs) (n k : ℕ) (now : ClientNow) → NowFits me n k now → NowFits me n (suc k) now
@@ -160,7 +163,7 @@ letters_fit more letters acts each fit =
 
 -- messages that are told, as letters
 pub each_letter_fits : (me : ClientArgs) (ts : List Told) → IsClient me.number → AllByRecursion ToldFits ts → AllByRecursion LetterFits (told_letters me ts)
-each_letter_fits me ts c each = all-map ToldFits LetterFits (told_letter me) (λ t b. (c, b)) ts each
+each_letter_fits me ts c each = all-map ToldFits LetterFits (told_letter me) (λ t is. ((c, is.0), is.1)) ts each
 
 -- an event more
 pub event_fits : (more : ℕ) (e : Event) (acts : Acts) → FitsItsLine e → ActsFit more acts → ActsFit more (with_event e acts)
@@ -196,9 +199,9 @@ pub stays_fits : (me : ClientArgs) (n k more : ℕ) (now : ClientNow) → NowFit
 stays_fits me n k more now fit = record { now = fit; acts = no_acts_fit more }
 
 -- a line that is refused
-pub refuses_fits : (me : ClientArgs) (n k more : ℕ) (now : ClientNow) (r : Refusal) → IsClient me.number → NowFits me n k now
+pub refuses_fits : (me : ClientArgs) (n k more : ℕ) (now : ClientNow) (r : Refusal) → IsClient me.number → RefusalFits r → NowFits me n k now
     → MoveFits me n k more (refuses me now r)
-refuses_fits me n k more now r c fit = record { now = fit; acts = shows_fit more (refusal_event me r) c }
+refuses_fits me n k more now r c is fit = record { now = fit; acts = shows_fit more (refusal_event me r) (c, is) }
 
 -- an order that waits
 pub waits_fits : (me : ClientArgs) (n k more : ℕ) (now : ClientNow) (o : Order) (acts : Acts) → OrderFits me k o → NowFits me n k now → ActsFit more acts
@@ -218,10 +221,10 @@ pub goes_fits : {A : Type 0} (me : ClientArgs) (n k more : ℕ) (now : ClientNow
 goes_fits me n k more now o acts P Wait done c is fit acted told h later = waits_fits me n k more now o acts is fit acted
 goes_fits me n k more now o acts P (Ask r) done c is fit acted told h later = record {
   now = record { count = fit.count; taken = fit.taken; order = is; writer = fit.writer; reader = fit.reader };
-  acts = letters_fit more _ acts (c, tt) acted;
+  acts = letters_fit more _ acts ((c, record { request = r; same = refl; fits = told }), tt) acted;
 }
 goes_fits me n k more now o acts P (Tell ts) done c is fit acted told h later =
     waits_fits me n k more now o (with_letters (told_letters me ts) acts) is fit
     (letters_fit more (told_letters me ts) acts (each_letter_fits me ts c told) acted)
 goes_fits me n k more now o acts P (Done a) done c is fit acted told h later = later a h
-goes_fits me n k more now o acts P (Refused r) done c is fit acted told h later = ends_fits me n k more now o acts (refusal_event me r) fit acted c
+goes_fits me n k more now o acts P (Refused r) done c is fit acted told h later = ends_fits me n k more now o acts (refusal_event me r) fit acted (c, told)

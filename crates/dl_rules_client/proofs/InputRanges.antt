@@ -1,10 +1,10 @@
 -- The ranges of what a client keeps and shows, by all that it took.
 use Rattle.std.proofs.Common.{ℕ, suc, ◌≤◌, false, ◌&&◌, ◌==◌, List, [], ◌∷◌, Option, Some, None, arith, length}
 use Rattle.std.specs.List.{AllByRecursion}
+use Rattle.dl_types.specs.declared.address.Address.{Address}
+use Rattle.dl_types.specs.declared.address.Address.TheVariants.{Client, Bookie as AtBookie, Meta as AtMeta}
 use Rattle.dl_types.specs.declared.refusal.Refusal.TheVariants as why
 use Rattle.dl_types.specs.declared.start.Start.TheVariants as start
-use Rattle.dl_types.specs.declared.dlsn.Dlsn.{Dlsn}
-use Rattle.dl_text.specs.PlaceFields.{IsPlaceFrom}
 use Rattle.dl_msg.specs.declared.heard.Heard.{Heard}
 use Rattle.dl_msg.specs.declared.heard.Heard.TheVariants.{Reply, From}
 use Rattle.dl_msg.specs.declared.letter.Letter.{Letter}
@@ -14,7 +14,8 @@ use Rattle.dl_msg.specs.declared.msg.Msg.{Msg}
 use Rattle.dl_msg.specs.declared.msg.Msg.TheVariants as msg
 use Rattle.dl_schedule.specs.declared.step.Step.{Step}
 use Rattle.dl_schedule.specs.declared.step.Step.TheVariants as step
-use Rattle.dl_schedule.specs.StepLines.{IsStep}
+use Rattle.dl_schedule.specs.StepLines.{IsStep, IsBookie, IsLink}
+use Rattle.dl_transcript.specs.Ranges.{IsU32}
 use Rattle.dl_rules_stream.specs.Makes.{make_first}
 use Rattle.dl_rules_stream.specs.Removes.{remove_first}
 use Rattle.dl_rules_stream.specs.Recovers.{recover_first}
@@ -30,7 +31,7 @@ use Rattle.dl_rules_client.specs.Orders.{order_hears}
 use Rattle.dl_rules_client.specs.Clients.{reply_hears, meta_hears, tagged_hears, takes_msg, bookie_in, takes_order, if_free, takes_line}
 use Rattle.dl_rules_client.specs.Clients.{with_confirmation, client_takes, client_of, acts_of}
 use Rattle.dl_rules_client.proofs.RangeLists.{cond_both}
-use Rattle.dl_rules_client.specs.EventRanges.{ClientActsFit, IsInput, lines_in, ArgsFit}
+use Rattle.dl_rules_client.specs.EventRanges.{ClientActsFit, IsInput, IsCountable, LetterFits, lines_in, ArgsFit}
 use Rattle.dl_rules_client.proofs.OpenRanges.{recover_begun}
 use Rattle.dl_rules_client.proofs.RangeLists.{AllSome}
 use Rattle.dl_rules_client.proofs.ClientRanges.{now_later, some_later, OrderFits, NowFits, MoveFits, now_more, new_fits, no_acts_fit, stays_fits}
@@ -59,7 +60,8 @@ reply_fits : (me : ClientArgs) (n k : ℕ) (now : ClientNow) (o : Option Order) 
     → NowFits me n k now → MoveFits me n (suc k) 0 (reply_hears me now o r)
 reply_fits me n k now None r args order fit = idle_fits me n k now fit
 reply_fits me n k now (Some o) Expired args order fit =
-    ends_fits me n (suc k) 0 now o no_acts (refusal_event me (why.Expired me.session)) (now_later me n k now fit) (no_acts_fit 0) args.number
+    ends_fits me n (suc k) 0 now o no_acts (refusal_event me (why.Expired me.session)) (now_later me n k now fit) (no_acts_fit 0)
+    (args.number, args.session)
 reply_fits me n k now (Some o) (Answer a) args order fit = heard_fits me n k now o (Reply a) args order fit
 
 -- a reply
@@ -79,81 +81,83 @@ tagged_fits me n k now (Some o) tag b m args order fit =
     (heard_fits me n k now o (From b m) args order fit) (idle_fits me n k now fit)
 
 -- an answer to an entry
-answered_fits : (me : ClientArgs) (n k : ℕ) (now : ClientNow) (l b : ℕ) (m : Msg) → ArgsFit n (suc k) me → NowFits me n k now
+answered_fits : (me : ClientArgs) (n k : ℕ) (now : ClientNow) (l b : ℕ) (m : Msg) → ArgsFit n (suc k) me → IsBookie b → NowFits me n k now
     → MoveFits me n (suc k) 0 (writer_hears me now now.writer l b m)
-answered_fits me n k now l b m args fit = writer_hears_fits me n (suc k) now now.writer l b m args fit.writer (now_later me n k now fit)
+answered_fits me n k now l b m args from fit = writer_hears_fits me n (suc k) now now.writer l b m args from fit.writer (now_later me n k now fit)
 
 -- a message by its kind
-msg_fits : (me : ClientArgs) (n k : ℕ) (now : ClientNow) (b : ℕ) (m : Msg) → ArgsFit n (suc k) me → NowFits me n k now
+msg_fits : (me : ClientArgs) (n k : ℕ) (now : ClientNow) (b : ℕ) (m : Msg) → ArgsFit n (suc k) me → IsBookie b → NowFits me n k now
     → MoveFits me n (suc k) 0 (takes_msg me now b m)
 unfolding takes_msg
-msg_fits me n k now b (msg.Add l e c bytes) args fit = idle_fits me n k now fit
-msg_fits me n k now b (msg.Copy t l e c bytes) args fit = idle_fits me n k now fit
-msg_fits me n k now b (msg.AskLac t l f) args fit = idle_fits me n k now fit
-msg_fits me n k now b (msg.AskEntry t l e) args fit = idle_fits me n k now fit
-msg_fits me n k now b (msg.AddOk l e) args fit = answered_fits me n k now l b (msg.AddOk l e) args fit
-msg_fits me n k now b (msg.AddFenced l e) args fit = answered_fits me n k now l b (msg.AddFenced l e) args fit
-msg_fits me n k now b (msg.Full what l e) args fit = idle_fits me n k now fit
-msg_fits me n k now b (msg.CopyOk t l e) args fit = tagged_fits me n k now now.order t b (msg.CopyOk t l e) args fit.order fit
-msg_fits me n k now b (msg.LacIs t l f c) args fit = tagged_fits me n k now now.order t b (msg.LacIs t l f c) args fit.order fit
-msg_fits me n k now b (msg.EntryIs t l e bytes) args fit = tagged_fits me n k now now.order t b (msg.EntryIs t l e bytes) args fit.order fit
-msg_fits me n k now b (msg.NoEntry t l e f) args fit = tagged_fits me n k now now.order t b (msg.NoEntry t l e f) args fit.order fit
-msg_fits me n k now b (msg.MetaAsk session number op) args fit = idle_fits me n k now fit
-msg_fits me n k now b (msg.MetaReply session number r) args fit = meta_fits me n k now session number r args fit
+msg_fits me n k now b (msg.Add l e c bytes) args from fit = idle_fits me n k now fit
+msg_fits me n k now b (msg.Copy t l e c bytes) args from fit = idle_fits me n k now fit
+msg_fits me n k now b (msg.AskLac t l f) args from fit = idle_fits me n k now fit
+msg_fits me n k now b (msg.AskEntry t l e) args from fit = idle_fits me n k now fit
+msg_fits me n k now b (msg.AddOk l e) args from fit = answered_fits me n k now l b (msg.AddOk l e) args from fit
+msg_fits me n k now b (msg.AddFenced l e) args from fit = answered_fits me n k now l b (msg.AddFenced l e) args from fit
+msg_fits me n k now b (msg.Full what l e) args from fit = idle_fits me n k now fit
+msg_fits me n k now b (msg.CopyOk t l e) args from fit = tagged_fits me n k now now.order t b (msg.CopyOk t l e) args fit.order fit
+msg_fits me n k now b (msg.LacIs t l f c) args from fit = tagged_fits me n k now now.order t b (msg.LacIs t l f c) args fit.order fit
+msg_fits me n k now b (msg.EntryIs t l e bytes) args from fit = tagged_fits me n k now now.order t b (msg.EntryIs t l e bytes) args fit.order fit
+msg_fits me n k now b (msg.NoEntry t l e f) args from fit = tagged_fits me n k now now.order t b (msg.NoEntry t l e f) args fit.order fit
+msg_fits me n k now b (msg.MetaAsk session number op) args from fit = idle_fits me n k now fit
+msg_fits me n k now b (msg.MetaReply session number r) args from fit = meta_fits me n k now session number r args fit
 
 -- ---- lines
 
--- a place whose segment is at least 1 is a place
-any_place : (d : Dlsn) → IsPlaceFrom 1 d → IsPlaceFrom 0 d
-any_place d (segment, rest) = ((omega arith, segment.1), rest)
-
 -- an order that begins
-order_line_fits : (me : ClientArgs) (n k : ℕ) (now : ClientNow) (line : ℕ) (x : Step) → ArgsFit (suc n) k me → IsStep x → NowFits me n k now
+order_line_fits : (me : ClientArgs) (n k : ℕ) (now : ClientNow) (line : ℕ) (x : Step) → ArgsFit (suc n) k me → IsU32 line × IsStep x → NowFits me n k now
     → MoveFits me (suc n) k 1 (takes_order me now line x)
 unfolding takes_order
 order_line_fits me n k now line (step.Create c s) args is fit =
-    begins_fits me (suc n) k 1 now line s (Makes []) (λ o. (make_first s).1) args.number is.1 tt tt (now_more me n k (suc n) now (omega arith) fit)
+    begins_fits me (suc n) k 1 now line s (Makes []) (λ o. (make_first s).1) args.number is.0 is.1.1 tt tt (now_more me n k (suc n) now (omega arith) fit)
 order_line_fits me n k now line (step.Remove c s) args is fit =
-    begins_fits me (suc n) k 1 now line s (Removes []) (λ o. (remove_first s).1) args.number is.1 tt tt (now_more me n k (suc n) now (omega arith) fit)
+    begins_fits me (suc n) k 1 now line s (Removes []) (λ o. (remove_first s).1) args.number is.0 is.1.1 tt tt (now_more me n k (suc n) now (omega arith) fit)
 order_line_fits me n k now line (step.Open c s) args is fit =
-    begins_open_fits me (suc n) k 1 now line s now.writer args.number is.1 (now_more me n k (suc n) now (omega arith) fit)
+    let next = now_more me n k (suc n) now (omega arith) fit in
+    begins_open_fits me (suc n) k 1 now line s now.writer args.number is.0 is.1.1 next.writer next
 order_line_fits me n k now line (step.Recover c s) args is fit =
-    begins_fits me (suc n) k 1 now line s (Recovers []) (λ o. (recover_first (recover_args me o)).1) args.number is.1
+    begins_fits me (suc n) k 1 now line s (Recovers []) (λ o. (recover_first (recover_args me o)).1) args.number is.0 is.1.1
     (recover_begun (record { tag = line; stream = s; conf = me.conf })) tt (now_more me n k (suc n) now (omega arith) fit)
 order_line_fits me n k now line (step.Purge c s) args is fit =
-    begins_fits me (suc n) k 1 now line s (Purges []) (λ o. (purge_first s).1) args.number is.1 (omega arith) tt (now_more me n k (suc n) now (omega arith) fit)
-order_line_fits me n k now line (step.Commit c) args is fit = commit_fits me n k now line now.writer args fit.writer fit
-order_line_fits me n k now line (step.Close c) args is fit = confirm_fits me n k now line now.writer args fit.writer fit
+    begins_fits me (suc n) k 1 now line s (Purges []) (λ o. (purge_first s).1) args.number is.0 is.1.1 (omega arith) tt
+    (now_more me n k (suc n) now (omega arith) fit)
+order_line_fits me n k now line (step.Commit c) args is fit = commit_fits me n k now line now.writer args is.0 fit.writer fit
+order_line_fits me n k now line (step.Close c) args is fit = confirm_fits me n k now line now.writer args is.0 fit.writer fit
 order_line_fits me n k now line (step.SeekOldest c s) args is fit =
-    begins_fits me (suc n) k 1 now line s (Seeks start.Oldest []) (λ o. (seek_first s).1) args.number is.1 tt tt (now_more me n k (suc n) now (omega arith) fit)
+    begins_fits me (suc n) k 1 now line s (Seeks start.Oldest []) (λ o. (seek_first s).1) args.number is.0 is.1.1 tt tt
+    (now_more me n k (suc n) now (omega arith) fit)
 order_line_fits me n k now line (step.SeekPlace c s d) args is fit =
-    begins_fits me (suc n) k 1 now line s (Seeks (start.Place d) []) (λ o. (seek_first s).1) args.number is.1.0 tt tt
+    begins_fits me (suc n) k 1 now line s (Seeks (start.Place d) []) (λ o. (seek_first s).1) args.number is.0 is.1.1.0 tt tt
     (now_more me n k (suc n) now (omega arith) fit)
 order_line_fits me n k now line (step.SeekTxid c s txid) args is fit =
-    begins_fits me (suc n) k 1 now line s (Seeks (start.Tx txid) []) (λ o. (seek_first s).1) args.number is.1.0 is.1.1 tt
+    begins_fits me (suc n) k 1 now line s (Seeks (start.Tx txid) []) (λ o. (seek_first s).1) args.number is.0 is.1.1.0 is.1.1.1 tt
     (now_more me n k (suc n) now (omega arith) fit)
 order_line_fits me n k now line (step.Read c count) args is fit =
-    begins_read_fits me (suc n) k 1 now line count now.reader args.number fit.reader (now_more me n k (suc n) now (omega arith) fit)
+    begins_read_fits me (suc n) k 1 now line count now.reader args.number is.0 fit.reader (now_more me n k (suc n) now (omega arith) fit)
 order_line_fits me n k now line (step.Truncate c s d) args is fit =
-    begins_fits me (suc n) k 1 now line s (Truncates d []) (λ o. (truncate_first (truncate_args o d)).1) args.number is.1.0 (any_place d is.1.1) tt
+    begins_fits me (suc n) k 1 now line s (Truncates d []) (λ o. (truncate_first (truncate_args o d)).1) args.number is.0 is.1.1.0 is.1.1.1 tt
     (now_more me n k (suc n) now (omega arith) fit)
 order_line_fits me n k now line x args is fit = stays_fits me (suc n) k 1 now (now_more me n k (suc n) now (omega arith) fit)
 
 -- a client has one order under way
-free_fits : (me : ClientArgs) (n k : ℕ) (now : ClientNow) (o : Option Order) (line : ℕ) (x : Step) → ArgsFit (suc n) k me → IsStep x → NowFits me n k now
+free_fits : (me : ClientArgs) (n k : ℕ) (now : ClientNow) (o : Option Order) (line : ℕ) (x : Step) → ArgsFit (suc n) k me → IsU32 line × IsStep x
+    → AllSome (OrderFits me k) o → NowFits me n k now
     → MoveFits me (suc n) k 1 (if_free me now o line x)
-free_fits me n k now (Some o) line x args is fit = refuses_fits me (suc n) k 1 now (why.Busy o.line) args.number (now_more me n k (suc n) now (omega arith) fit)
-free_fits me n k now None line x args is fit = order_line_fits me n k now line x args is fit
+free_fits me n k now (Some o) line x args is order fit =
+    refuses_fits me (suc n) k 1 now (why.Busy o.line) args.number order.line (now_more me n k (suc n) now (omega arith) fit)
+free_fits me n k now None line x args is order fit = order_line_fits me n k now line x args is fit
 
 -- a line
-line_fits : (me : ClientArgs) (n k : ℕ) (now : ClientNow) (line : ℕ) (x : Step) → ArgsFit (suc n) k me → IsStep x → NowFits me n k now
-    → MoveFits me (suc n) k 1 (takes_line me now line x)
+line_fits : (me : ClientArgs) (n k : ℕ) (now : ClientNow) (line : ℕ) (x : Step) → ArgsFit (suc n) k me → IsU32 line × (IsStep x × IsCountable x)
+    → NowFits me n k now → MoveFits me (suc n) k 1 (takes_line me now line x)
 unfolding takes_line
-line_fits me n k now line (step.Append c txid payload) args is fit = appends_one_fits me n k now now.writer txid payload args is.1.0 is.1.1 fit.writer fit
+line_fits me n k now line (step.Append c txid payload) args is fit =
+    appends_one_fits me n k now now.writer txid payload args is.1.0.1.0 is.1.0.1.1 is.1.1 fit.writer fit
 line_fits me n k now line (step.Set c txid payloads) args is fit =
-    appends_many_fits me n k now now.writer txid payloads args is.1.0 is.1.1.valid (omega (arith, is.1.1.most)) fit.writer fit
+    appends_many_fits me n k now now.writer txid payloads args is.1.0.1.0 is.1.0.1.1.valid (omega (arith, is.1.0.1.1.most)) is.1.1 fit.writer fit
 line_fits me n k now line (step.Flush c) args is fit = flushes_fits me n k now now.writer args fit.writer fit
-line_fits me n k now line x args is fit = free_fits me n k now now.order line x args is fit
+line_fits me n k now line x args is fit = free_fits me n k now now.order line x args (is.0, is.1.0) fit.order fit
 
 -- ---- views
 
@@ -165,22 +169,37 @@ confirmed_fits me n k more move fit = record {
 }
 
 -- a client that takes a line
-pub taken_line_fits : (me : ClientArgs) (n k : ℕ) (now : ClientNow) (line : ℕ) (x : Step) → ArgsFit (suc n) (suc k) me → IsStep x → NowFits me n k now
+pub taken_line_fits : (me : ClientArgs) (n k : ℕ) (now : ClientNow) (line : ℕ) (x : Step) → ArgsFit (suc n) (suc k) me → IsU32 line × (IsStep x × IsCountable x)
+    → NowFits me n k now
     → MoveFits me (suc n) (suc k) 1 (client_takes me now (Line line x))
 unfolding client_takes
 taken_line_fits me n k now line x args is fit =
     confirmed_fits me (suc n) (suc k) 1 (takes_line me now line x) (line_fits me n (suc k) now line x args is (now_later me n k now fit))
 
+-- the storage node that a letter on a link is from
+from_fits : (from to : Address) → IsLink from to → IsBookie (bookie_in from)
+from_fits (AtBookie b) (Client c) link = link.0
+from_fits (AtBookie b) to link = absurd link
+from_fits AtMeta to link = (omega arith, omega arith)
+from_fits (Client c) to link = (omega arith, omega arith)
+
 -- a client that takes a letter
-pub taken_letter_fits : (me : ClientArgs) (n k : ℕ) (now : ClientNow) (l : Letter) → ArgsFit n (suc k) me → NowFits me n k now
+pub taken_letter_fits : (me : ClientArgs) (n k : ℕ) (now : ClientNow) (l : Letter) → ArgsFit n (suc k) me → LetterFits l → NowFits me n k now
     → MoveFits me n (suc k) 0 (client_takes me now (Came l))
 unfolding client_takes
-taken_letter_fits me n k now l args fit =
-    confirmed_fits me n (suc k) 0 (takes_msg me now (bookie_in l.from) l.msg) (msg_fits me n k now (bookie_in l.from) l.msg args fit)
+taken_letter_fits me n k now l args link fit =
+    confirmed_fits me n (suc k) 0 (takes_msg me now (bookie_in l.from) l.msg)
+    (msg_fits me n k now (bookie_in l.from) l.msg args (from_fits l.from l.to link.0) fit)
 
 -- a client with fewer lines and letters
 pub fewer : (me : ClientArgs) (n m i j : ℕ) → n ≤ m → i ≤ j → ArgsFit m j me → ArgsFit n i me
-fewer me n m i j h g args = record { number = args.number; count = args.count; calls = omega (arith, h, args.calls); counted = omega (arith, g, args.counted) }
+fewer me n m i j h g args = record {
+  number = args.number;
+  session = args.session;
+  count = args.count;
+  calls = omega (arith, h, args.calls);
+  counted = omega (arith, g, args.counted);
+}
 
 -- a client by all that it took
 pub client_fits : (me : ClientArgs) (view : List Input) → ArgsFit (lines_in view) (length view) me → AllByRecursion IsInput view
@@ -195,7 +214,7 @@ client_fits me (Line line x ∷ view) args each =
 client_fits me (Came l ∷ view) args each =
     let n : ℕ = lines_in view in
     let k : ℕ = length view in
-    (taken_letter_fits me n k (client_of me view) l args (client_fits me view (fewer me n n k (suc k) (omega arith) (omega arith) args) each.1)).now
+    (taken_letter_fits me n k (client_of me view) l args each.0 (client_fits me view (fewer me n n k (suc k) (omega arith) (omega arith) args) each.1)).now
 
 -- what a client does as it takes something more
 done_fits : (me : ClientArgs) (n k more : ℕ) (move : ClientMove) → MoveFits me n k more move → ClientActsFit move.acts
@@ -212,5 +231,5 @@ input_fits me view (Line line x) args each =
 input_fits me view (Came l) args each =
     let n : ℕ = lines_in view in
     let k : ℕ = length view in
-    done_fits me n (suc k) 0 _ (taken_letter_fits me n k (client_of me view) l args
+    done_fits me n (suc k) 0 _ (taken_letter_fits me n k (client_of me view) l args each.0
     (client_fits me view (fewer me n n k (suc k) (omega arith) (omega arith) args) each.1))

@@ -1,10 +1,12 @@
 -- The ranges of what a log writer keeps and gives back: its rows, the entries that it sent, and the records under way.
 use Rattle.std.proofs.Common.{◌≡◌, ℕ, suc, ◌+◌, ◌-◌, ◌≤◌, List, [], ◌∷◌, length, take, drop, Option, Some, None, Result, Ok}
-use Rattle.std.proofs.Common.{Err, is_some, refl, ap, subst, arith, length-append}
+use Rattle.std.proofs.Common.{Err, is_some, refl, ap, subst, arith, length-append, Bool, true, false, cond, not, ◌&&◌}
+use Rattle.std.specs.Prelude.{nat_lt}
 use Rattle.std.specs.List.{AllByRecursion}
 use Rattle.dl_types.specs.declared.row.Origin.{Origin}
 use Rattle.dl_types.specs.declared.row.Row.{Row}
 use Rattle.dl_types.specs.declared.refusal.Refusal.{Refusal}
+use Rattle.dl_types.specs.declared.refusal.Refusal.TheVariants as refused
 use Rattle.dl_record.specs.declared.stored.Stored.{Stored}
 use Rattle.dl_record.specs.declared.stored.Stored.TheVariants.{Plain, Set}
 use Rattle.dl_text.specs.Hex.{AllBytes}
@@ -19,15 +21,16 @@ use Rattle.dl_rules_stream.specs.LogWriters.{control_bytes, LogNow, LogMove, sta
 use Rattle.dl_rules_stream.specs.LogWriters.{goes_on}
 use Rattle.dl_rules_stream.specs.LogWriters.{then_goes_on}
 use Rattle.dl_rules_stream.specs.LogWriters.{makes_room, has_parts, fits, all_confirmed, confirmed_count, fenced_at, sent_count, in_mode, past_commit}
-use Rattle.dl_rules_stream.specs.LogWriters.{pending_from}
+use Rattle.dl_rules_stream.specs.LogWriters.{pending_from, longest_payload, is_closing, is_window_full, writer_fault, or_fault, fault_if}
+use Rattle.dl_rules_stream.specs.LogWriters as log
 use Rattle.dl_rules_stream.specs.LogWriters.{takes_behind, unless, take_fault, send_fault, set_size, appends, appends_set, log_flushes, commits, closes}
 use Rattle.dl_rules_stream.specs.LogWriters.{heard_by, log_hears, or_same, after_log_call}
 use Rattle.dl_rules_stream.specs.LogWriters.{LogArgs, log_started, LogState, IsOpen, IsCommitting, HasCommitted, IsClosing, MayClose, IsFenced, state_by}
 use Rattle.dl_rules_stream.specs.LogWriters.{log_state, SentEntry, last_behind, last_sent_entry}
 use Rattle.dl_quorum.specs.Pieces.{members}
 use Rattle.dl_record.specs.Grammar.{entry_bytes}
-use Rattle.dl_rules_ledger.specs.Writers.{add_letters}
-use Rattle.dl_rules_client.specs.EventRanges.{set_most}
+use Rattle.dl_rules_ledger.specs.Writers.{add_letters, is_add_fenced, first_fence, or_else}
+use Rattle.dl_rules_client.specs.EventRanges.{RefusalFits, set_most}
 use Rattle.dl_rules_client.proofs.TellRanges.{ToldFits}
 use Rattle.dl_rules_client.proofs.RangeLists.{cond_both}
 use Rattle.dl_rules_client.proofs.RangeLists.{AllSome, all-map, all-append, all-last, all-take, all-drop, all-flat}
@@ -75,6 +78,8 @@ pub record LogFits (records entries : ℕ) (w : LogNow) : Type 0 where
   pub kept : length w.entries + due w.mode ≤ entries
   pub control : ControlUpTo entries w.mode
   pub members : (entry : ℕ) → AllByRecursion IsBookie (members w.ledger.pieces entry)
+  pub fenced : AllSome IsBookie (fenced_at w)
+  pub last : IsTxid w.last_taken
 
 -- a move of one
 pub record LogMoveFits (records entries : ℕ) (m : LogMove) : Type 0 where
@@ -85,7 +90,7 @@ pub record LogMoveFits (records entries : ℕ) (m : LogMove) : Type 0 where
 -- a move, where a call is not refused
 abbrev pub CallFits : (records entries : ℕ) → Result LogMove Refusal → Type 0
 CallFits r e (Ok m) = LogMoveFits r e m
-CallFits r e (Err why) = Unit {0}
+CallFits r e (Err why) = RefusalFits why
 
 -- a greater bound on control entries
 control_more : (e f : ℕ) (mode : LogMode) → e ≤ f → ControlUpTo e mode → ControlUpTo f mode
@@ -107,6 +112,8 @@ log_more r q e f w h k fit = record {
   kept = omega (arith, k, fit.kept);
   control = control_more e f w.mode k fit.control;
   members = fit.members;
+  fenced = fit.fenced;
+  last = fit.last;
 }
 
 -- a move with greater bounds
@@ -138,7 +145,7 @@ rows_at_fit segment entry slot (p ∷ ps) s e few each =
 add_letters_fit : {r e : ℕ} (w : LogNow) (bytes : List ℕ) → LogFits r e w → AllByRecursion ToldFits (add_letters w.ledger bytes)
 unfolding add_letters
 add_letters_fit w bytes fit =
-    all-map IsBookie ToldFits _ (λ b is. is) (members w.ledger.pieces (sent_count w)) (fit.members (sent_count w))
+    all-map IsBookie ToldFits _ (λ b is. (is, tt)) (members w.ledger.pieces (sent_count w)) (fit.members (sent_count w))
 
 -- the entry under way is sent
 parts_fit : (r e : ℕ) (w : LogNow) → r ≤ most_u32 → e ≤ most_u64 → LogFits r e w → LogMoveFits r (suc e) (sends_parts w)
@@ -154,6 +161,8 @@ parts_fit r e w h k fit = record {
     kept = omega (arith, fit.kept, length-append w.entries (rows_due w ∷ []));
     control = control_more e (suc e) w.mode (omega arith) fit.control;
     members = fit.members;
+    fenced = fit.fenced;
+    last = fit.last;
   };
   rows = tt;
   letters = add_letters_fit w (entry_bytes w.parts) fit;
@@ -182,6 +191,8 @@ mode_fit r e w mode one control fit = record {
   kept = omega (arith, fit.kept, one);
   control = control;
   members = fit.members;
+  fenced = fit.fenced;
+  last = fit.last;
 }
 
 -- the control entry is sent that was due
@@ -199,6 +210,8 @@ control_fit r e w is fit =
         kept = omega (arith, fit.kept, one, length-append w.entries ([] ∷ []));
         control = omega (arith, fit.sent, one);
         members = fit.members;
+        fenced = fit.fenced;
+        last = fit.last;
       };
       rows = tt;
       letters = add_letters_fit w (control_bytes w) fit;
@@ -215,6 +228,8 @@ committed_fit r e n w is fit = record {
   kept = omega (arith, fit.kept);
   control = subst (ControlUpTo e) is fit.control;
   members = fit.members;
+  fenced = fit.fenced;
+  last = fit.last;
 }
 
 -- a close that may be made
@@ -228,6 +243,8 @@ closable_fit r e w fit = record {
   kept = omega (arith, fit.kept);
   control = tt;
   members = fit.members;
+  fenced = fit.fenced;
+  last = fit.last;
 }
 
 -- the next step of a mode
@@ -261,9 +278,47 @@ then_fit r e m fit =
     }
 
 -- a call that may be refused
-unless_fit : (r e : ℕ) (why : Option Refusal) (m : LogMove) → LogMoveFits r e m → CallFits r e (unless why m)
-unless_fit r e None m fit = fit
-unless_fit r e (Some why) m fit = tt
+unless_fit : (r e : ℕ) (why : Option Refusal) (m : LogMove) → AllSome RefusalFits why → LogMoveFits r e m → CallFits r e (unless why m)
+unless_fit r e None m is fit = fit
+unless_fit r e (Some why) m is fit = is
+
+-- ---- refusals
+
+-- a close has begun, or the ledger is fenced
+writer_fault_fits : (closing : Bool) (fenced : Option ℕ) → AllSome IsBookie fenced → AllSome RefusalFits (writer_fault closing fenced)
+writer_fault_fits true fenced is = tt
+writer_fault_fits false (Some b) is = is
+writer_fault_fits false None is = tt
+
+-- a first fault, or else the second one
+or_fault_fits : (x y : Option Refusal) → AllSome RefusalFits x → AllSome RefusalFits y → AllSome RefusalFits (or_fault x y)
+or_fault_fits (Some why) y a b = a
+or_fault_fits None y a b = b
+
+-- a fault where a test holds
+fault_if_fits : (t : Bool) (why : Refusal) → RefusalFits why → AllSome RefusalFits (fault_if t why)
+fault_if_fits true why is = is
+fault_if_fits false why is = tt
+
+-- why a call that sends an entry is refused
+send_fault_fits : (r e : ℕ) (w : LogNow) (due : Bool) → LogFits r e w → AllSome RefusalFits (send_fault w due)
+send_fault_fits r e w due fit =
+    or_fault_fits (writer_fault (is_closing w.mode) (fenced_at w)) (fault_if (due && is_window_full w) refused.WindowFull)
+    (writer_fault_fits (is_closing w.mode) (fenced_at w) fit.fenced) (fault_if_fits (due && is_window_full w) refused.WindowFull tt)
+
+-- why a record is refused
+take_fault_fits : (r e : ℕ) (w : LogNow) (size txid : ℕ) → size ≤ most_u64 → IsTxid txid → LogFits r e w → AllSome RefusalFits (take_fault w size txid)
+take_fault_fits r e w size txid small id fit =
+    let long : Option Refusal = fault_if (nat_lt longest_payload size) (refused.TooLong size) in
+    let back : Option Refusal = fault_if (nat_lt txid w.last_taken) (refused.TxidBack w.last_taken txid) in
+    let full : Option Refusal = fault_if (not (log.fits w size) && is_window_full w) refused.WindowFull in
+    or_fault_fits (writer_fault (is_closing w.mode) (fenced_at w)) (or_fault long (or_fault back full))
+    (writer_fault_fits (is_closing w.mode) (fenced_at w) fit.fenced)
+    (or_fault_fits long (or_fault back full) (fault_if_fits (nat_lt longest_payload size) (refused.TooLong size) (omega arith, small))
+    (or_fault_fits back full (fault_if_fits (nat_lt txid w.last_taken) (refused.TxidBack w.last_taken txid) (fit.last, id))
+    (fault_if_fits (not (log.fits w size) && is_window_full w) refused.WindowFull tt)))
+
+-- ---- calls
 
 -- the records of a call
 pub pending_fit : (o : Origin) (txid : ℕ) (payloads : List (List ℕ)) → IsClient o.client → IsTxid txid → o.call + length payloads ≤ suc most_u32
@@ -300,9 +355,9 @@ pending_length o txid [] = refl
 pending_length o txid (p ∷ ps) = ap suc (pending_length (record o { call = o.call + 1 }) txid ps)
 
 -- records are taken behind what is sent first
-behind_fit : (r e k : ℕ) (m : LogMove) (txid : ℕ) (part : ℕ → Stored) (ps : List Pending) → length ps ≤ k → AllByRecursion IsPending ps
+behind_fit : (r e k : ℕ) (m : LogMove) (txid : ℕ) (part : ℕ → Stored) (ps : List Pending) → length ps ≤ k → AllByRecursion IsPending ps → IsTxid txid
     → LogMoveFits r e m → LogMoveFits (r + k) e (takes_behind m txid part ps)
-behind_fit r e k m txid part ps few each fit = record {
+behind_fit r e k m txid part ps few each id fit = record {
   now = record {
     segment = fit.now.segment;
     pending = all-append IsPending m.now.pending ps fit.now.pending each;
@@ -312,14 +367,22 @@ behind_fit r e k m txid part ps few each fit = record {
     kept = omega (arith, fit.now.kept, past_due m.now.mode);
     control = past_control e m.now.mode fit.now.control;
     members = fit.now.members;
+    fenced = fit.now.fenced;
+    last = id;
   };
   rows = fit.rows;
   letters = fit.letters;
 }
 
+-- the bookie that fenced a writer, behind a message more
+fence_fits : (first : Option ℕ) (t : Bool) (b : ℕ) → IsBookie b → AllSome IsBookie first → AllSome IsBookie (or_else first (cond t (Some b) None))
+fence_fits (Some b) t c from is = is
+fence_fits None true b from is = from
+fence_fits None false b from is = tt
+
 -- a writer that has heard something
-heard_fit : (r e : ℕ) (w : LogNow) (b : ℕ) (m : Msg) → LogFits r e w → LogMoveFits r e (heard_by w b m)
-heard_fit r e w b m fit =
+heard_fit : (r e : ℕ) (w : LogNow) (b : ℕ) (m : Msg) → IsBookie b → LogFits r e w → LogMoveFits r e (heard_by w b m)
+heard_fit r e w b m from fit =
     let after : LogNow = (heard_by w b m).now in
     let low : ℕ = confirmed_count w in
     let high : ℕ = confirmed_count after in
@@ -333,6 +396,8 @@ heard_fit r e w b m fit =
         kept = omega (arith, fit.kept);
         control = fit.control;
         members = fit.members;
+        fenced = fence_fits (first_fence w.ledger.ledger w.ledger.calls) (is_add_fenced w.ledger.ledger m) b from fit.fenced;
+        last = fit.last;
       };
       letters = tt;
       rows = all-flat (AllByRecursion IsRow) IsRow (λ rows. rows) (λ rows each. each) (take (high - low) (drop low w.entries))
@@ -340,9 +405,9 @@ heard_fit r e w b m fit =
     }
 
 -- a message of a bookie
-pub hears_fit : (r e : ℕ) (w : LogNow) (b : ℕ) (m : Msg) → LogFits r e w → LogMoveFits r e (log_hears w b m)
+pub hears_fit : (r e : ℕ) (w : LogNow) (b : ℕ) (m : Msg) → IsBookie b → LogFits r e w → LogMoveFits r e (log_hears w b m)
 unfolding log_hears
-hears_fit r e w b m fit = then_fit r e (heard_by w b m) (heard_fit r e w b m fit)
+hears_fit r e w b m from fit = then_fit r e (heard_by w b m) (heard_fit r e w b m from fit)
 
 -- The records of an append or of a set, where the last of their numbers has 32 bits.
 pub record IsTaken (o : Origin) (txid : ℕ) (payloads : List (List ℕ)) : Type 0 where
@@ -351,6 +416,7 @@ pub record IsTaken (o : Origin) (txid : ℕ) (payloads : List (List ℕ)) : Type
   pub calls : o.call + length payloads ≤ suc most_u32
   pub bytes : AllByRecursion AllBytes payloads
   pub few : length payloads ≤ set_most
+  pub size : set_size payloads ≤ most_u64
 
 -- records that are taken behind room that is made
 taken_fit : (r e size : ℕ) (w : LogNow) (o : Origin) (txid : ℕ) (payloads : List (List ℕ)) (part : ℕ → Stored) → r ≤ most_u32 → suc e ≤ most_u64
@@ -359,7 +425,7 @@ taken_fit : (r e size : ℕ) (w : LogNow) (o : Origin) (txid : ℕ) (payloads : 
 taken_fit r e size w o txid payloads part h k is fit =
     move_more (r + set_most) (r + set_most) (suc e) (suc (suc e)) _ (omega arith) (omega arith)
     (behind_fit r (suc e) set_most (makes_room w size) txid part (pending_from o txid payloads)
-    (omega (arith, is.few, pending_length o txid payloads)) (pending_fit o txid payloads is.client is.id is.calls is.bytes)
+    (omega (arith, is.few, pending_length o txid payloads)) (pending_fit o txid payloads is.client is.id is.calls is.bytes) is.id
     (room_fit r e size w h (omega (arith, k)) fit))
 
 -- a record
@@ -368,6 +434,7 @@ pub appends_fit : (r e : ℕ) (w : LogNow) (o : Origin) (txid : ℕ) (payload : 
 unfolding appends
 appends_fit r e w o txid payload h k is fit =
     unless_fit (r + set_most) (suc (suc e)) (take_fault w (length payload) txid) _
+    (take_fault_fits r e w (length payload) txid (omega (arith, is.size)) is.id fit)
     (taken_fit r e (length payload) w o txid (payload ∷ []) (λ position. Plain position txid payload) h k is fit)
 
 -- a set of records
@@ -375,7 +442,7 @@ pub sets_fit : (r e : ℕ) (w : LogNow) (o : Origin) (txid : ℕ) (payloads : Li
     → IsTaken o txid payloads → LogFits r e w → CallFits (r + set_most) (suc (suc e)) (appends_set w o txid payloads)
 unfolding appends_set
 sets_fit r e w o txid payloads h k is fit =
-    unless_fit (r + set_most) (suc (suc e)) (take_fault w (set_size payloads) txid) _
+    unless_fit (r + set_most) (suc (suc e)) (take_fault w (set_size payloads) txid) _ (take_fault_fits r e w (set_size payloads) txid is.size is.id fit)
     (taken_fit r e (set_size payloads) w o txid payloads (λ position. Set position txid payloads) h k is fit)
 
 -- what is under way is sent in another mode
@@ -405,13 +472,15 @@ kept_fit r e w fit = record {
   kept = omega (arith, fit.kept, past_due w.mode);
   control = past_control e w.mode fit.control;
   members = fit.members;
+  fenced = fit.fenced;
+  last = fit.last;
 }
 
 -- a flush
 pub flush_fit : (r e : ℕ) (w : LogNow) → r ≤ most_u32 → suc e ≤ most_u64 → LogFits r e w → CallFits (r + set_most) (suc (suc e)) (log_flushes w)
 unfolding log_flushes
 flush_fit r e w h k fit =
-    unless_fit (r + set_most) (suc (suc e)) (send_fault w (has_parts w)) _
+    unless_fit (r + set_most) (suc (suc e)) (send_fault w (has_parts w)) _ (send_fault_fits r e w (has_parts w) fit)
     (move_more r (r + set_most) (suc e) (suc (suc e)) _ (omega arith) (omega arith)
     (flushes_fit r e (in_mode (past_commit w.mode) w) h (omega (arith, k)) (kept_fit r e w fit)))
 
@@ -419,14 +488,14 @@ flush_fit r e w h k fit =
 pub commit_fit : (r e : ℕ) (w : LogNow) → r ≤ most_u32 → suc e ≤ most_u64 → LogFits r e w → CallFits (r + set_most) (suc (suc e)) (commits w)
 unfolding commits
 commit_fit r e w h k fit =
-    unless_fit (r + set_most) (suc (suc e)) (send_fault w (has_parts w)) _
+    unless_fit (r + set_most) (suc (suc e)) (send_fault w (has_parts w)) _ (send_fault_fits r e w (has_parts w) fit)
     (then_fit (r + set_most) (suc (suc e)) (flushes (in_mode (Committing None) w)) (sent_fit r e w (Committing None) (omega arith) tt h k fit))
 
 -- a close
 pub close_fit : (r e : ℕ) (w : LogNow) → r ≤ most_u32 → suc e ≤ most_u64 → LogFits r e w → CallFits (r + set_most) (suc (suc e)) (closes w)
 unfolding closes
 close_fit r e w h k fit =
-    unless_fit (r + set_most) (suc (suc e)) (send_fault w (has_parts w)) _
+    unless_fit (r + set_most) (suc (suc e)) (send_fault w (has_parts w)) _ (send_fault_fits r e w (has_parts w) fit)
     (then_fit (r + set_most) (suc (suc e)) (flushes (in_mode Closing w)) (sent_fit r e w Closing (omega arith) tt h k fit))
 
 -- a call leaves what it says, or the writer as it was
@@ -442,7 +511,7 @@ IsCall (AppendsSet o txid payloads) = IsTaken o txid payloads
 IsCall Flushes = Unit {0}
 IsCall Commits = Unit {0}
 IsCall Closes = Unit {0}
-IsCall (HearsFrom b m) = Unit {0}
+IsCall (HearsFrom b m) = IsBookie b
 
 -- a writer after a call
 pub called_fit : (r e : ℕ) (w : LogNow) (call : LogCall) → r ≤ most_u32 → suc e ≤ most_u64 → IsCall call → LogFits r e w
@@ -455,16 +524,17 @@ called_fit r e w Flushes h k is fit = same_fit r e w (log_flushes w) fit (flush_
 called_fit r e w Commits h k is fit = same_fit r e w (commits w) fit (commit_fit r e w h k fit)
 called_fit r e w Closes h k is fit = same_fit r e w (closes w) fit (close_fit r e w h k fit)
 called_fit r e w (HearsFrom b m) h k is fit =
-    log_more r (r + set_most) e (suc (suc e)) _ (omega arith) (omega arith) (hears_fit r e w b m fit).now
+    log_more r (r + set_most) e (suc (suc e)) _ (omega arith) (omega arith) (hears_fit r e w b m is fit).now
 
 -- a writer after a message of a bookie
-pub told_fit : (r e : ℕ) (w : LogNow) (b : ℕ) (m : Msg) → LogFits r e w → LogFits r e (after_log_call w (HearsFrom b m))
+pub told_fit : (r e : ℕ) (w : LogNow) (b : ℕ) (m : Msg) → IsBookie b → LogFits r e w → LogFits r e (after_log_call w (HearsFrom b m))
 unfolding after_log_call
-told_fit r e w b m fit = (hears_fit r e w b m fit).now
+told_fit r e w b m from fit = (hears_fit r e w b m from fit).now
 
 -- a writer that was given no call yet
-pub started_fit : (r e : ℕ) (x : LogArgs) → IsU64 x.segment → ((entry : ℕ) → AllByRecursion IsBookie (members x.pieces entry)) → LogFits r e (log_started x)
-started_fit r e x is members = record {
+pub started_fit : (r e : ℕ) (x : LogArgs) → IsU64 x.segment → IsTxid x.last
+    → ((entry : ℕ) → AllByRecursion IsBookie (members x.pieces entry)) → LogFits r e (log_started x)
+started_fit r e x is id members = record {
   segment = is;
   pending = tt;
   few = omega arith;
@@ -473,6 +543,8 @@ started_fit r e x is members = record {
   kept = omega arith;
   control = tt;
   members = members;
+  fenced = tt;
+  last = id;
 }
 
 -- the number of a control entry that a writer tells
@@ -482,24 +554,24 @@ ToldUpTo most IsOpen = Unit {0}
 ToldUpTo most IsCommitting = Unit {0}
 ToldUpTo most IsClosing = Unit {0}
 ToldUpTo most (MayClose entries rows last) = Unit {0}
-ToldUpTo most (IsFenced bookie) = Unit {0}
+ToldUpTo most (IsFenced bookie) = IsBookie bookie
 
 -- what a writer tells by its mode
-told_by : (e : ℕ) (w : LogNow) (mode : LogMode) (fenced : Option ℕ) → ControlUpTo e mode → ToldUpTo e (state_by w mode fenced)
-told_by e w Closable fenced c = tt
-told_by e w Open (Some b) c = tt
-told_by e w (Committing n) (Some b) c = tt
-told_by e w (Committed n) (Some b) c = tt
-told_by e w Closing (Some b) c = tt
-told_by e w Open None c = tt
-told_by e w (Committing n) None c = tt
-told_by e w (Committed n) None c = c
-told_by e w Closing None c = tt
+told_by : (e : ℕ) (w : LogNow) (mode : LogMode) (fenced : Option ℕ) → AllSome IsBookie fenced → ControlUpTo e mode → ToldUpTo e (state_by w mode fenced)
+told_by e w Closable fenced is c = tt
+told_by e w Open (Some b) is c = is
+told_by e w (Committing n) (Some b) is c = is
+told_by e w (Committed n) (Some b) is c = is
+told_by e w Closing (Some b) is c = is
+told_by e w Open None is c = tt
+told_by e w (Committing n) None is c = tt
+told_by e w (Committed n) None is c = c
+told_by e w Closing None is c = tt
 
 -- what a writer tells
 pub state_fit : (r e : ℕ) (w : LogNow) → LogFits r e w → ToldUpTo e (log_state w)
 unfolding log_state
-state_fit r e w fit = told_by e w w.mode (fenced_at w) fit.control
+state_fit r e w fit = told_by e w w.mode (fenced_at w) fit.fenced fit.control
 
 -- an entry that was sent
 pub record EntryFits (x : SentEntry) : Type 0 where

@@ -20,7 +20,10 @@ use Rattle.dl_formats.specs.declared.segment_name.SegmentName.{SegmentName}
 use Rattle.dl_formats.specs.declared.segment_name.SegmentName.TheVariants.{Progress, Completed}
 use Rattle.dl_formats.specs.NodeBytes.{ten_nines, max_u64, most_count}
 use Rattle.dl_formats.specs.Reading.{between_from, node_fields_from, node_from, with_place, state_from, ledger_of, ledger_from, ledger_at, in_progress_from}
-use Rattle.dl_formats.specs.Reading.{completed_from, kind_from, segment_from, segment_at}
+use Rattle.dl_formats.specs.Reading.{completed_from, kind_from, segment_from, segment_at, maxseq_of, maxseq_from, maxseq_at}
+use Rattle.dl_formats.specs.declared.maxseq.MaxSeq.{MaxSeq}
+use Rattle.dl_types.specs.declared.txid.TheConstants.{MAX_TXID}
+use Rattle.dl_schedule.specs.StepLines.{IsTxid}
 use Rattle.dl_rules_stream.specs.Nodes.{LedgerNode}
 use Rattle.dl_formats.specs.Keys as key
 use Rattle.dl_rules_stream.specs.Orders as stream
@@ -160,6 +163,30 @@ segment_such bytes = place_such (length bytes) (node_from segment_from bytes) Se
     (node_such segment_from SegmentFits (map_such (λ (x : ℕ × SegmentMeta). x.1) (then_at (between_from w8 1 2) kind_from) SegmentFits
     (second_such (between_from w8 1 2) kind_from SegmentFits kind_such)) bytes)
 
+-- ---- `maxseq`
+
+-- The segment and the transaction id that a `maxseq` names.
+pub record MaxSeqFits (m : MaxSeq) : Type 0 where
+  pub segment : m.segment ≤ ten_nines
+  pub last : IsTxid m.last
+
+-- the fields of a `maxseq`
+maxseq_such : ReadsSuch maxseq_from MaxSeqFits
+maxseq_such =
+    map_such maxseq_of (then_at (between_from w64 0 ten_nines) (λ segment. between_from w64 0 MAX_TXID)) MaxSeqFits (λ bytes x rest read. record {
+      segment = first_such (between_from w64 0 ten_nines) (λ segment. between_from w64 0 MAX_TXID) (λ n. n ≤ ten_nines) (between_such w64 0 ten_nines)
+          bytes x rest read;
+      last = (
+        omega arith,
+        second_such (between_from w64 0 ten_nines) (λ segment. between_from w64 0 MAX_TXID) (λ n. n ≤ MAX_TXID)
+            (λ segment. between_such w64 0 MAX_TXID) bytes x rest read,
+      );
+    })
+
+-- the `maxseq` in a node
+pub maxseq_fits : (bytes : List ℕ) → AllOk (maxseq_at bytes) MaxSeqFits
+maxseq_fits bytes = place_such (length bytes) (node_from maxseq_from bytes) MaxSeqFits (node_such maxseq_from MaxSeqFits maxseq_such bytes)
+
 -- ---- names
 
 -- a segment of a listing has at most ten digits
@@ -194,7 +221,7 @@ ten_most digits len all =
     omega (arith, least, same)
 
 -- the number of ten digits
-ten_fits : (digits : List ℕ) → AllSome (λ n. n ≤ ten_nines) (ten_digits_in digits)
+pub ten_fits : (digits : List ℕ) → AllSome (λ n. n ≤ ten_nines) (ten_digits_in digits)
 ten_fits digits = go (length digits == 10 && list_all is_digit digits) refl
   where
     go : (t : Bool) → (length digits == 10 && list_all is_digit digits) ≡ t → AllSome (λ n. n ≤ ten_nines) (cond t (Some (digits_number digits)) None)
@@ -273,7 +300,7 @@ refusal_such (Ok a) f P Q is h = h a is
 refusal_such (Err why) f P Q is h = tt
 
 -- what is given up says nothing
-gave_up_such : {A : Type 0} (path : List ℕ) (r : Result A MetaBytesFault) (P : A → Type 0) → AllOk r P → AllOk (or_gave_up path r) P
+pub gave_up_such : {A : Type 0} (path : List ℕ) (r : Result A MetaBytesFault) (P : A → Type 0) → AllOk r P → AllOk (or_gave_up path r) P
 gave_up_such path (Ok a) P is = is
 gave_up_such path (Err fault) P is = tt
 

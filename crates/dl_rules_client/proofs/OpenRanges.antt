@@ -10,7 +10,7 @@ use Rattle.dl_types.specs.declared.refusal.Refusal.TheVariants as refused
 use Rattle.dl_types.specs.Places.{is_at_most, is_before}
 use Rattle.dl_types.specs.declared.why.Why.TheVariants.{NoNode}
 use Rattle.dl_text.specs.PlaceFields.{IsPlaceFrom}
-use Rattle.dl_schedule.specs.StepLines.{IsCount}
+use Rattle.dl_schedule.specs.StepLines.{IsCount, IsTxid}
 use Rattle.dl_msg.specs.declared.heard.Heard.{Heard}
 use Rattle.dl_msg.specs.declared.heard.Heard.TheVariants.{Reply, From}
 use Rattle.dl_formats.specs.Keys.{MaxSeq, path_of}
@@ -20,7 +20,7 @@ use Rattle.dl_formats.specs.declared.segment_name.SegmentName.TheVariants.{Progr
 use Rattle.dl_rules_stream.specs.Requests.{Beginning, SetCut}
 use Rattle.dl_rules_stream.specs.Orders.{Next, Wait, Ask, Refused, stage_after}
 use Rattle.dl_rules_stream.specs.Listings.{last_segment}
-use Rattle.dl_rules_stream.specs.Locks.{lock_first, lock_hears}
+use Rattle.dl_rules_stream.specs.Locks.{lock_hears}
 use Rattle.dl_rules_stream.specs.Looks.{Looked, look_first, look_hears}
 use Rattle.dl_rules_stream.specs.Allocations.{AllocationStage, allocation_first, allocation_hears}
 use Rattle.dl_rules_stream.specs.SegmentRecoveries.{SegmentArgs, SegmentStage, Recovered, ClosedAt, Again, segment_first, segment_hears}
@@ -34,20 +34,21 @@ use Rattle.dl_rules_stream.specs.Truncates.{truncate_hears}
 use Rattle.dl_rules_client.proofs.RangeLists.{Any, AllSome, cond_both}
 use Rattle.dl_rules_client.proofs.NextRanges.{NextFits, PairFits, within_such, within_fits, refused_fits}
 use Rattle.dl_rules_client.proofs.NodeRanges.{NameFits, last_segment_fits}
-use Rattle.dl_rules_client.proofs.RecoveryRanges.{LookedFits, look_fits, SegmentStageFits, RecoveredFits, SegmentMove, segment_fits, end_place, by_fits}
+use Rattle.dl_rules_client.proofs.RecoveryRanges.{LockStageFits, lock_fits, LookedFits, look_fits}
+use Rattle.dl_rules_client.proofs.RecoveryRanges.{SegmentStageFits, RecoveredFits, SegmentMove, segment_fits, end_place, by_fits}
 
 -- the next segment has at most ten digits
 abbrev pub OpenStageFits : OpenStage → Type 0
-OpenStageFits (Locking stage) = Unit {0}
+OpenStageFits (Locking stage) = LockStageFits stage
 OpenStageFits (LookingFor member stage) = Unit {0}
 OpenStageFits (RecoveringSegment member args stage) = (args.segment ≤ ten_nines) × SegmentStageFits stage × IsCount args.conf.b
-OpenStageFits (Allocating member looked stage) = looked.maxseq.segment + 1 ≤ ten_nines
-OpenStageFits (Starting b) = b.segment ≤ ten_nines
+OpenStageFits (Allocating member looked stage) = (looked.maxseq.segment + 1 ≤ ten_nines) × IsTxid looked.maxseq.last
+OpenStageFits (Starting b) = (b.segment ≤ ten_nines) × IsTxid b.last
 OpenStageFits OpenDone = Unit {0}
 
 -- so has the one that is opened
 abbrev pub OpenedFits : Opened → Type 0
-OpenedFits x = x.segment ≤ ten_nines
+OpenedFits x = (x.segment ≤ ten_nines) × IsTxid x.last
 
 -- a stage of an open, and what it does next
 abbrev OpenFits : OpenStage × Next Opened → Type 0
@@ -68,30 +69,30 @@ goes_fits x member args move h b is =
 
 -- an allocation
 allocation_fits : (x : OpenArgs) (member : List ℕ) (looked : Looked) (version : ℕ) (move : AllocationStage × Next ℕ)
-    → looked.maxseq.segment + 1 ≤ ten_nines → OpenFits (allocation_goes x member looked version move)
-allocation_fits x member looked version move h =
-    within_fits OpenStageFits OpenedFits (Allocating member looked) OpenDone _ move (λ s. h) tt (λ ledger. (h, tt))
+    → looked.maxseq.segment + 1 ≤ ten_nines → IsTxid looked.maxseq.last → OpenFits (allocation_goes x member looked version move)
+allocation_fits x member looked version move h last =
+    within_fits OpenStageFits OpenedFits (Allocating member looked) OpenDone _ move (λ s. (h, last)) tt (λ ledger. ((h, last), tt))
 
 -- an allocation begins
-allocates_fit : (x : OpenArgs) (member : List ℕ) (looked : Looked) → OpenFits (allocates x member looked)
-allocates_fit x member looked = go (nat_lt ten_nines (looked.maxseq.segment + 1)) refl
+allocates_fit : (x : OpenArgs) (member : List ℕ) (looked : Looked) → IsTxid looked.maxseq.last → OpenFits (allocates x member looked)
+allocates_fit x member looked last = go (nat_lt ten_nines (looked.maxseq.segment + 1)) refl
   where
     go : (t : Bool) → nat_lt ten_nines (looked.maxseq.segment + 1) ≡ t
         → OpenFits (cond t (OpenDone, Refused (refused.GaveUp (path_of (MaxSeq x.stream))))
         (allocation_goes x member looked 0 (allocation_first (allocation_args x member looked))))
     go true e = (tt, tt)
-    go false e = allocation_fits x member looked 0 (allocation_first (allocation_args x member looked)) (ltb-false ten_nines (looked.maxseq.segment + 1) e)
+    go false e = allocation_fits x member looked 0 (allocation_first (allocation_args x member looked)) (ltb-false ten_nines (looked.maxseq.segment + 1) e) last
 
 -- behind a look
 after_look_fits : (x : OpenArgs) (member : List ℕ) (looked : Looked) (last : Option SegmentName) → IsCount x.conf.b → AllSome NameFits last
-    → OpenFits (after_look x member looked last)
-after_look_fits x member looked (Some (Progress k)) b is =
+    → IsTxid looked.maxseq.last → OpenFits (after_look x member looked last)
+after_look_fits x member looked (Some (Progress k)) b is id =
     goes_fits x member (segment_args x member looked k) (segment_first (segment_args x member looked k)) is b (tt, tt)
-after_look_fits x member looked (Some (Completed k)) b is = allocates_fit x member looked
-after_look_fits x member looked None b is = allocates_fit x member looked
+after_look_fits x member looked (Some (Completed k)) b is id = allocates_fit x member looked id
+after_look_fits x member looked None b is id = allocates_fit x member looked id
 
 -- the start of the segment
-start_fits : (b : Beginning) (a : MetaAnswer) → b.segment ≤ ten_nines → OpenFits (start_answers b a)
+start_fits : (b : Beginning) (a : MetaAnswer) → (b.segment ≤ ten_nines) × IsTxid b.last → OpenFits (start_answers b a)
 start_fits b (answer.Failed place w) h = (tt, tt)
 start_fits b (answer.Many answers) h = (tt, h)
 start_fits b (answer.One x) h = (h, tt)
@@ -100,15 +101,17 @@ start_fits b (answer.One x) h = (h, tt)
 pub open_fits : (x : OpenArgs) (stage : OpenStage) (h : Heard) → IsCount x.conf.b → OpenStageFits stage → OpenFits (open_hears x stage h)
 unfolding open_hears
 open_fits x (Locking stage) h b is =
-    within_fits OpenStageFits OpenedFits Locking OpenDone (looks x) (lock_hears x.stream stage h) (λ s. tt) tt (λ member. looks_fit x member)
+    within_such LockStageFits Any OpenStageFits OpenedFits Locking OpenDone (looks x) (lock_hears x.stream stage h) (λ s fit. fit) tt
+    (λ member u. looks_fit x member) (lock_fits x.stream stage h is)
 open_fits x (LookingFor member stage) h b is =
     within_such Any LookedFits OpenStageFits OpenedFits (LookingFor member) OpenDone (λ looked. after_look x member looked (last_segment looked.segments))
     (look_hears x.stream stage h) (λ s u. tt) tt
-    (λ looked fit. after_look_fits x member looked (last_segment looked.segments) b (last_segment_fits looked.segments fit)) (look_fits x.stream stage h)
+    (λ looked fit. after_look_fits x member looked (last_segment looked.segments) b (last_segment_fits looked.segments fit.segments) fit.maxseq.last)
+    (look_fits x.stream stage h)
 open_fits x (RecoveringSegment member args stage) h b is =
     goes_fits x member args (segment_hears args stage h) is.0 is.2 (segment_fits args stage h is.1)
 open_fits x (Allocating member looked stage) h b is =
-    allocation_fits x member looked (alloc_version_in h) (allocation_hears (allocation_args x member looked) stage h) is
+    allocation_fits x member looked (alloc_version_in h) (allocation_hears (allocation_args x member looked) stage h) is.0 is.1
 open_fits x (Starting s) (Reply a) b is = start_fits s a is
 open_fits x (Starting s) (From bookie m) b is = (is, tt)
 open_fits x OpenDone h b is = (tt, tt)
@@ -116,7 +119,7 @@ open_fits x OpenDone h b is = (tt, tt)
 -- the stage with which an open begins
 pub open_begun : (x : OpenArgs) → OpenStageFits (open_stage x [])
 unfolding stage_after
-open_begun x = (within_fits OpenStageFits OpenedFits Locking OpenDone (looks x) (lock_first x.stream) (λ s. tt) tt (λ member. looks_fit x member)).0
+open_begun x = tt
 
 -- the stage behind one thing more that it hears
 pub open_later : (x : OpenArgs) (h : Heard) (heard : List Heard) → IsCount x.conf.b → OpenStageFits (open_stage x heard)
@@ -182,7 +185,7 @@ unfolding recover.recover_hears
 recover_fits x (recover.LookingFor stage) h b is =
     within_such Any LookedFits RecoverStageFits FoundFits recover.LookingFor recover.RecoverDone
     (λ looked. recover.after_look x looked (last_segment looked.segments)) (look_hears x.stream stage h) (λ s u. tt) tt
-    (λ looked fit. recover_after_fits x looked (last_segment looked.segments) b (last_segment_fits looked.segments fit)) (look_fits x.stream stage h)
+    (λ looked fit. recover_after_fits x looked (last_segment looked.segments) b (last_segment_fits looked.segments fit.segments)) (look_fits x.stream stage h)
 recover_fits x (recover.RecoveringSegment args stage) h b is = recover_goes_fits x args (segment_hears args stage h) is.0 is.2 (segment_fits args stage h is.1)
 recover_fits x recover.RecoverDone h b is = (tt, tt)
 

@@ -10,6 +10,7 @@ use Rattle.dl_text.specs.Numbers.{most_u64}
 use Rattle.dl_text.specs.PlaceFields.{IsPlaceFrom}
 use Rattle.dl_msg.specs.declared.heard.Heard.{Heard}
 use Rattle.dl_schedule.specs.StepLines.{IsClient}
+use Rattle.dl_transcript.specs.Ranges.{IsU32}
 use Rattle.dl_transcript.specs.declared.event.Event.{Event}
 use Rattle.dl_transcript.specs.declared.event.Event.TheVariants as event
 use Rattle.dl_rules_stream.specs.Orders.{Next}
@@ -47,21 +48,21 @@ use Rattle.dl_rules_client.proofs.ClientRanges.{event_fits, shows_fit, without_f
 
 -- an order begins
 pub begins_fits : {A : Type 0} (me : ClientArgs) (n k more : ℕ) (now : ClientNow) (line : ℕ) (s : List ℕ) (doing : Doing) (first : Order → Next A)
-    → IsClient me.number → IsName s → DoingFits me k (record { line = line; stream = s; doing = doing }) doing
+    → IsClient me.number → IsU32 line → IsName s → DoingFits me k (record { line = line; stream = s; doing = doing }) doing
     → TellsFit (first (record { line = line; stream = s; doing = doing })) → NowFits me n k now
     → MoveFits me n k more (begins me now line s doing first)
-begins_fits me n k more now line s doing first c name is told fit =
+begins_fits me n k more now line s doing first c number name is told fit =
     let o : Order = record { line = line; stream = s; doing = doing } in
-    let order : OrderFits me k o = record { stream = name; doing = is } in
+    let order : OrderFits me k o = record { stream = name; line = number; doing = is } in
     goes_fits me n k more now o no_acts Any (first o) _ c order fit (no_acts_fit more) told (any_next (first o))
     (λ a u. waits_fits me n k more now o no_acts order fit (no_acts_fit more))
 
 -- an open begins
 pub begins_open_fits : (me : ClientArgs) (n k more : ℕ) (now : ClientNow) (line : ℕ) (s : List ℕ) (w : Option WriterView)
-    → IsClient me.number → IsName s → NowFits me n k now → MoveFits me n k more (begins_open me now line s w)
-begins_open_fits me n k more now line s (Some w) c name fit = refuses_fits me n k more now (why.Busy w.line) c fit
-begins_open_fits me n k more now line s None c name fit =
-    begins_fits me n k more now line s (Opens []) (λ o. (open_first (open_args me o)).1) c name
+    → IsClient me.number → IsU32 line → IsName s → AllSome (WriterFits n) w → NowFits me n k now → MoveFits me n k more (begins_open me now line s w)
+begins_open_fits me n k more now line s (Some w) c number name writer fit = refuses_fits me n k more now (why.Busy w.line) c writer.line fit
+begins_open_fits me n k more now line s None c number name writer fit =
+    begins_fits me n k more now line s (Opens []) (λ o. (open_first (open_args me o)).1) c number name
     (open_begun (open_args me (record { line = line; stream = s; doing = Opens [] }))) tt fit
 
 -- ---- reads
@@ -89,11 +90,12 @@ reader_goes_fits me n k more now o r acts call c order is fit acted =
 
 -- a read begins
 pub begins_read_fits : (me : ClientArgs) (n k more : ℕ) (now : ClientNow) (line count : ℕ) (r : Option ReaderView)
-    → IsClient me.number → AllSome ReaderFits r → NowFits me n k now → MoveFits me n k more (begins_read me now line count r)
-begins_read_fits me n k more now line count None c is fit = stays_fits me n k more now fit
-begins_read_fits me n k more now line count (Some r) c is fit =
+    → IsClient me.number → IsU32 line → AllSome ReaderFits r → NowFits me n k now → MoveFits me n k more (begins_read me now line count r)
+begins_read_fits me n k more now line count None c number is fit = stays_fits me n k more now fit
+begins_read_fits me n k more now line count (Some r) c number is fit =
     let o : Order = record { line = line; stream = r.args.stream; doing = Reads } in
-    reader_goes_fits me n k more now o r (shows (event.Reading me.number o.stream)) (CallsRead line count) c (record { stream = is.0; doing = tt }) is fit
+    reader_goes_fits me n k more now o r (shows (event.Reading me.number o.stream)) (CallsRead line count) c
+    (record { stream = is.0; line = number; doing = tt }) is fit
     (shows_fit more (event.Reading me.number o.stream) (c, is.0))
 
 -- a read hears something
@@ -111,25 +113,28 @@ recovered_fit me more s None c name is = no_acts_fit more
 recovered_fit me more s (Some d) c name is = shows_fit more (event.Recovered me.number s d) (c, (name, is))
 
 -- the writer that an open ends with
-new_writer_fits : (me : ClientArgs) (n k : ℕ) (o : Order) (x : Opened) → IsCount me.conf.b → IsName o.stream → OpenedFits x → WriterFits n (new_writer me o x)
+new_writer_fits : (me : ClientArgs) (n k : ℕ) (o : Order) (x : Opened) → IsCount me.conf.b → IsName o.stream → IsU32 o.line → OpenedFits x
+    → WriterFits n (new_writer me o x)
 unfolding log_of
-new_writer_fits me n k o x b name is =
-    let few : x.segment ≤ most_u64 = omega (arith, is) in
+new_writer_fits me n k o x b name line is =
+    let few : x.segment ≤ most_u64 = omega (arith, is.0) in
     record {
       stream = name;
+      line = line;
       segment = (omega arith, few);
-      log = started_fit (set_most * n) (2 * n) (new_writer me o x).args (omega arith, few)
+      log = started_fit (set_most * n) (2 * n) (new_writer me o x).args (omega arith, few) is.1
           (λ entry. members_fit x.ledger me.conf.b (new_sizes me.conf) entry b);
     }
 
 -- an open ends
 ends_open_fits : (me : ClientArgs) (n k more : ℕ) (now : ClientNow) (o : Order) (acts : Acts) (x : Opened)
-    → IsClient me.number → IsName o.stream → OpenedFits x → NowFits me n k now → ActsFit more acts → MoveFits me n k more (ends_open me now o acts x)
-ends_open_fits me n k more now o acts x c name is fit acted =
+    → IsClient me.number → IsName o.stream → IsU32 o.line → OpenedFits x → NowFits me n k now → ActsFit more acts
+    → MoveFits me n k more (ends_open me now o acts x)
+ends_open_fits me n k more now o acts x c name line is fit acted =
     let ended = without_fits me n k now o fit in
-    let few : x.segment ≤ most_u64 = omega (arith, is) in
+    let few : x.segment ≤ most_u64 = omega (arith, is.0) in
     record {
-      now = record { count = ended.count; taken = ended.taken; order = tt; writer = new_writer_fits me n k o x fit.count name is; reader = ended.reader };
+      now = record { count = ended.count; taken = ended.taken; order = tt; writer = new_writer_fits me n k o x fit.count name line is; reader = ended.reader };
       acts = event_fits more (event.Writer me.number o.stream x.segment) acts (c, (name, (omega arith, few))) acted;
     }
 
@@ -166,20 +171,25 @@ goes_to_fits me n k more now o doing P next end c order fit told h shown =
 
 -- an open that heard something
 open_goes_fits : (me : ClientArgs) (n k more : ℕ) (now : ClientNow) (o : Order) (h : Heard) (heard : List Heard)
-    → IsClient me.number → IsName o.stream → OpenStageFits (open_stage (open_args me o) heard) → NowFits me n k now
+    → IsClient me.number → IsName o.stream → IsU32 o.line → OpenStageFits (open_stage (open_args me o) heard) → NowFits me n k now
     → MoveFits me n k more (open_goes_on me now o h heard (open_stage (open_args me o) heard))
-open_goes_fits me n k more now o h heard c name is fit =
+open_goes_fits me n k more now o h heard c name line is fit =
     let stage : OpenStage = open_stage (open_args me o) heard in
     let acts : Acts = recovered_acts me o.stream (open_recovers stage h) in
     let acted : ActsFit more acts = recovered_fit me more o.stream (open_recovers stage h) c name (recovers_fit stage h is) in
     goes_fits me n k more now (order_doing o (Opens (h ∷ heard))) acts OpenedFits (open_hears (open_args me o) stage h).1 _ c
-    (record { stream = name; doing = open_later (open_args me o) h heard fit.count is }) fit acted
+    (record { stream = name; line = line; doing = open_later (open_args me o) h heard fit.count is }) fit acted
     (open_told (open_args me o) stage h is) (open_fits (open_args me o) stage h fit.count is).1
-    (λ x p. ends_open_fits me n k more now o acts x c name p fit acted)
+    (λ x p. ends_open_fits me n k more now o acts x c name line p fit acted)
+
+-- a place whose segment is at least 1 is a place
+any_place : (d : Dlsn) → IsPlaceFrom 1 d → IsPlaceFrom 0 d
+any_place d (segment, rest) = ((omega arith, segment.1), rest)
 
 -- an order of this doing, on the stream of another
-order_of : (me : ClientArgs) (k : ℕ) (o : Order) (doing : Doing) → IsName o.stream → DoingFits me k o doing → OrderFits me k (order_doing o doing)
-order_of me k o doing name is = record { stream = name; doing = is }
+order_of : (me : ClientArgs) (k : ℕ) (o : Order) (doing : Doing) → IsName o.stream → IsU32 o.line → DoingFits me k o doing
+    → OrderFits me k (order_doing o doing)
+order_of me k o doing name line is = record { stream = name; line = line; doing = is }
 
 -- the order under way hears something
 pub order_fits : (me : ClientArgs) (n k more : ℕ) (now : ClientNow) (o : Order) (h : Heard) (doing : Doing)
@@ -188,38 +198,40 @@ pub order_fits : (me : ClientArgs) (n k more : ℕ) (now : ClientNow) (o : Order
 unfolding order_hears
 order_fits me n k more now o h (Makes heard) c few name is order fit =
     goes_to_fits me n (suc k) more now o (Makes (h ∷ heard)) Any (make_hears o.stream (make_stage o.stream heard) h).1 (λ u. event.Created me.number o.stream)
-    c (order_of me (suc k) o (Makes (h ∷ heard)) name tt) fit (make_told o.stream (make_stage o.stream heard) h) (any_next _) (λ a p. (c, name))
+    c (order_of me (suc k) o (Makes (h ∷ heard)) name order.line tt) fit (make_told o.stream (make_stage o.stream heard) h) (any_next _) (λ a p. (c, name))
 order_fits me n k more now o h (Removes heard) c few name is order fit =
     goes_to_fits me n (suc k) more now o (Removes (h ∷ heard)) Any (remove_hears o.stream (remove_stage o.stream heard) h).1
     (λ u. event.Removed me.number o.stream)
-    c (order_of me (suc k) o (Removes (h ∷ heard)) name tt) fit (remove_told o.stream (remove_stage o.stream heard) h) (any_next _) (λ a p. (c, name))
-order_fits me n k more now o h (Opens heard) c few name is order fit = open_goes_fits me n (suc k) more now o h heard c name is fit
+    c (order_of me (suc k) o (Removes (h ∷ heard)) name order.line tt) fit (remove_told o.stream (remove_stage o.stream heard) h) (any_next _)
+    (λ a p. (c, name))
+order_fits me n k more now o h (Opens heard) c few name is order fit = open_goes_fits me n (suc k) more now o h heard c name order.line is fit
 order_fits me n k more now o h (Recovers heard) c few name is order fit =
     let args : RecoverArgs = recover_args me o in
     goes_to_fits me n (suc k) more now o (Recovers (h ∷ heard)) FoundFits (recover_hears args (recover_stage args heard) h).1 (found_event me o.stream)
-    c (order_of me (suc k) o (Recovers (h ∷ heard)) name (recover_later args h heard fit.count is)) fit (recover_told args (recover_stage args heard) h is)
+    c (order_of me (suc k) o (Recovers (h ∷ heard)) name order.line (recover_later args h heard fit.count is)) fit
+    (recover_told args (recover_stage args heard) h is)
     (recover_fits args (recover_stage args heard) h fit.count is).1
     (λ a p. found_fits me o.stream a c name p)
 order_fits me n k more now o h Commits c few name is order fit = waits_fits me n (suc k) more now o no_acts order fit (no_acts_fit more)
 order_fits me n k more now o h Confirms c few name is order fit = waits_fits me n (suc k) more now o no_acts order fit (no_acts_fit more)
 order_fits me n k more now o h (Closes args heard) c few name is order fit =
     goes_to_fits me n (suc k) more now o (Closes args (h ∷ heard)) Any (close_hears args (close_stage args heard) h).1 (λ u. event.Released me.number o.stream)
-    c (order_of me (suc k) o (Closes args (h ∷ heard)) name tt) fit (close_told args (close_stage args heard) h) (any_next _) (λ a p. (c, name))
+    c (order_of me (suc k) o (Closes args (h ∷ heard)) name order.line tt) fit (close_told args (close_stage args heard) h) (any_next _) (λ a p. (c, name))
 order_fits me n k more now o h (Seeks from heard) c few name is order fit =
     goes_fits me n (suc k) more now (order_doing o (Seeks from (h ∷ heard))) no_acts Any (seek_hears o.stream (seek_stage o.stream heard) h).1 _ c
-    (order_of me (suc k) o (Seeks from (h ∷ heard)) name is) fit (no_acts_fit more) (seek_told o.stream (seek_stage o.stream heard) h) (any_next _)
+    (order_of me (suc k) o (Seeks from (h ∷ heard)) name order.line is) fit (no_acts_fit more) (seek_told o.stream (seek_stage o.stream heard) h) (any_next _)
     (λ point p. ends_seek_fits me n (suc k) more now o from point c name is fit)
 order_fits me n k more now o h Reads c few name is order fit = read_fits me n (suc k) more now o now.reader h c order fit.reader fit
 order_fits me n k more now o h (Truncates to heard) c few name is order fit =
     goes_to_fits me n (suc k) more now o (Truncates to (h ∷ heard)) (IsPlaceFrom 0)
     (truncate_hears (truncate_args o to) (truncate_stage (truncate_args o to) heard) h).1 (event.Truncated me.number o.stream)
-    c (order_of me (suc k) o (Truncates to (h ∷ heard)) name is) fit
-    (truncate_told (truncate_args o to) (truncate_stage (truncate_args o to) heard) h)
-    (truncated_fits (truncate_args o to) (truncate_stage (truncate_args o to) heard) h is)
+    c (order_of me (suc k) o (Truncates to (h ∷ heard)) name order.line is) fit
+    (truncate_told (truncate_args o to) (truncate_stage (truncate_args o to) heard) h (name, is))
+    (truncated_fits (truncate_args o to) (truncate_stage (truncate_args o to) heard) h (any_place to is))
     (λ d p. (c, (name, p)))
 order_fits me n k more now o h (Purges heard) c few name is order fit =
     goes_to_fits me n (suc k) more now o (Purges (h ∷ heard)) (λ count. count ≤ suc k) (purge_hears o.stream (purge_stage o.stream heard) h).1
     (event.Purged me.number o.stream)
-    c (order_of me (suc k) o (Purges (h ∷ heard)) name (omega (arith, is))) fit
+    c (order_of me (suc k) o (Purges (h ∷ heard)) name order.line (omega (arith, is))) fit
     (purge_told o.stream (purge_stage o.stream heard) h) (purge_fits o.stream (purge_stage o.stream heard) h k (omega (arith, is, purge_count o.stream heard)))
     (λ count p. (c, (name, (omega arith, omega (arith, p, few)))))

@@ -1,11 +1,11 @@
 -- The number of a segment that is recovered, and the count at which its ledger is closed, fit their lines.
-use Rattle.std.proofs.Common.{◌≡◌, ℕ, zero, suc, ◌+◌, ◌≤◌, Bool, true, false, cond, List, [], ◌∷◌, refl, arith}
-use Rattle.std.specs.Prelude.{nat_le}
+use Rattle.std.proofs.Common.{◌≡◌, ℕ, zero, suc, ◌+◌, ◌≤◌, ◌<◌, Bool, true, false, ◌&&◌, ◌==◌, cond, List, [], ◌∷◌, Option, Some, None, refl, arith}
+use Rattle.std.specs.Prelude.{nat_le, nat_lt}
 use Rattle.std.proofs.lemmas.Bool.{leb-true}
 use Rattle.std.specs.List.{AllByRecursion}
 use Rattle.dl_types.specs.declared.meta_answer.MetaAnswer.{MetaAnswer}
 use Rattle.dl_types.specs.declared.meta_answer.MetaAnswer.TheVariants as answer
-use Rattle.dl_types.specs.declared.one_answer.OneAnswer.TheVariants.{Version, Bytes, Names}
+use Rattle.dl_types.specs.declared.one_answer.OneAnswer.TheVariants.{Made, Version, Bytes, Names}
 use Rattle.dl_types.specs.declared.why.Why.{Why}
 use Rattle.dl_types.specs.declared.why.Why.TheVariants.{NoNode, BadVersion}
 use Rattle.dl_quorum.specs.Pieces.{acks, blocks, covers}
@@ -25,12 +25,16 @@ use Rattle.dl_rules_ledger.specs.Readers.{ReaderStage, Fetched, asks_entry, hear
 use Rattle.dl_rules_ledger.specs.Recoveries.{greatest_entry, Phase, Fencing, Reading, Copying, Ended, Exhausted, Move, fences, reads, after_answer}
 use Rattle.dl_rules_ledger.specs.Recoveries.{after_denial, after_entry, after_copy, recovers}
 use Rattle.dl_rules_stream.specs.Nodes.{LedgerNode}
-use Rattle.dl_rules_stream.specs.Orders.{Next, Wait, Done, tells}
+use Rattle.dl_rules_stream.specs.Orders.{Next, Wait, Ask, Done, tells}
 use Rattle.dl_rules_stream.specs.Requests.{Completion}
 use Rattle.dl_rules_stream.specs.Listings.{maxseq_of, alloc_of, ledger_of, ledger_node_of, segment_of}
 use Rattle.dl_rules_stream.specs.LedgerRecoveries.{RecoveryArgs, RecoveryStage, GettingNode, Marking, Searching, Closing, IsClosed, IsGone, WasRefused}
 use Rattle.dl_rules_stream.specs.LedgerRecoveries.{come_to, subject_of, after_move, after_node, recovery_first}
 use Rattle.dl_rules_stream.specs.LedgerRecoveries.{recovery_answers, recovery_told, recovery_hears}
+use Rattle.dl_rules_stream.specs.Requests.{LeaveLock}
+use Rattle.dl_rules_stream.specs.Listings.{ten_digits_in, member_in, number_behind}
+use Rattle.dl_rules_stream.specs.Locks.{LockStage, MakingMember, ListingMembers, LeavingLock, LockDone, least_with, least_of, lock_or_leave}
+use Rattle.dl_rules_stream.specs.Locks.{lock_answers, lock_hears}
 use Rattle.dl_rules_stream.specs.Looks.{Looked, LookStage, Looking, LookDone, look_values, look_answers, look_hears}
 use Rattle.dl_rules_stream.specs.SegmentRecoveries.{SegmentArgs, SegmentStage, GettingSegment, RecoveringLedger, FetchingEnd, Completing, CheckingSegment}
 use Rattle.dl_rules_stream.specs.SegmentRecoveries.{SegmentDone, Recovered, ClosedAt, Again, ledger_args, end_subject, is_completed}
@@ -38,19 +42,27 @@ use Rattle.dl_rules_stream.specs.SegmentRecoveries.{after_end, after_closed, aft
 use Rattle.dl_rules_stream.specs.SegmentRecoveries.{segment_told, segment_hears, recovered_by}
 use Rattle.dl_rules_client.proofs.RangeLists.{Any, AllOk, AllSome, cond_both}
 use Rattle.dl_rules_client.proofs.NextRanges.{NextFits, any_next, PairFits, within_such, refused_such}
-use Rattle.dl_rules_client.proofs.NodeRanges.{NameFits, LedgerFits, refusal_such, any_ok, ok_map, ledger_fits, segments_fit}
+use Rattle.dl_rules_client.proofs.NodeRanges.{NameFits, LedgerFits, MaxSeqFits, refusal_such, gave_up_such}
+use Rattle.dl_rules_client.proofs.NodeRanges.{any_ok, ok_map, ledger_fits, segments_fit, maxseq_fits, ten_fits}
+use Rattle.dl_formats.specs.Keys.{MaxSeq, path_of}
+use Rattle.dl_formats.specs.Reading.{maxseq_at}
 
 -- ---- looks
 
--- a look tells segments of at most ten digits
-abbrev pub LookedFits : Looked → Type 0
-LookedFits x = AllByRecursion NameFits x.segments
+-- the `maxseq` of a stream
+pub maxseq_node_fits : (s bytes : List ℕ) → AllOk (maxseq_of s bytes) MaxSeqFits
+maxseq_node_fits s bytes = gave_up_such (path_of (MaxSeq s)) (maxseq_at bytes) MaxSeqFits (maxseq_fits bytes)
+
+-- A look tells segments of at most ten digits.
+pub record LookedFits (x : Looked) : Type 0 where
+  pub segments : AllByRecursion NameFits x.segments
+  pub maxseq : MaxSeqFits x.maxseq
 
 -- the values of nodes that were read
 looked_fits : (s : List ℕ) (names : List (List ℕ)) (maxseq : List ℕ) (v : ℕ) (alloc : List ℕ) (w : ℕ) → AllOk (look_values s names maxseq v alloc w) LookedFits
 looked_fits s names maxseq v alloc w =
-    refusal_such (maxseq_of s maxseq) _ Any LookedFits (any_ok (maxseq_of s maxseq)) (λ m u.
-    refusal_such (alloc_of s alloc) _ Any LookedFits (any_ok (alloc_of s alloc)) (λ old u. segments_fit names))
+    refusal_such (maxseq_of s maxseq) _ MaxSeqFits LookedFits (maxseq_node_fits s maxseq) (λ m fit.
+    refusal_such (alloc_of s alloc) _ Any LookedFits (any_ok (alloc_of s alloc)) (λ old u. record { segments = segments_fit names; maxseq = fit }))
 
 -- what a look does at an answer
 look_answers_fit : (s : List ℕ) (stage : LookStage) (a : MetaAnswer) → PairFits Any LookedFits (look_answers s stage a)
@@ -66,6 +78,65 @@ look_answers_fit s stage a = (tt, tt)
 pub look_fits : (s : List ℕ) (stage : LookStage) (h : Heard) → PairFits Any LookedFits (look_hears s stage h)
 look_fits s stage (Reply a) = look_answers_fit s stage a
 look_fits s stage (From b m) = (tt, tt)
+
+-- ---- locks
+
+-- the least number of a lock's members, where that isn't the own one, has at most ten digits
+abbrev pub LockStageFits : LockStage → Type 0
+LockStageFits MakingMember = Unit {0}
+LockStageFits (ListingMembers member) = Unit {0}
+LockStageFits (LeavingLock member least) = least ≤ ten_nines
+LockStageFits LockDone = Unit {0}
+
+-- the number of a member
+member_fits : (name : List ℕ) → AllSome (λ n. n ≤ ten_nines) (member_in name)
+unfolding member_in
+member_fits [] = tt
+member_fits (letter ∷ []) = tt
+member_fits (letter ∷ dash ∷ digits) =
+    cond_both (AllSome (λ n. n ≤ ten_nines)) (letter == 109 && dash == 45) (ten_digits_in digits) None (ten_fits digits) tt
+
+-- a number below another one has at most ten digits
+abbrev FewBelow : ℕ → ℕ → Type 0
+FewBelow top n = n < top → n ≤ ten_nines
+
+-- the lesser of a number and that of a name
+with_fits : (top n : ℕ) (m : Option ℕ) → AllSome (λ k. k ≤ ten_nines) m → FewBelow top n → FewBelow top (least_with n m)
+with_fits top n None is h = h
+with_fits top n (Some m) is h = cond_both (FewBelow top) (nat_lt m n) m n (λ below. is) h
+
+-- the least number of members
+least_fits : (top n : ℕ) (names : List (List ℕ)) → FewBelow top n → FewBelow top (least_of n names)
+least_fits top n [] h = h
+least_fits top n (name ∷ names) h = least_fits top (least_with n (member_in name)) names (with_fits top n (member_in name) (member_fits name) h)
+
+-- a lock that is settled
+settled_fits : (member : List ℕ) (least : ℕ) → FewBelow (number_behind member) least → PairFits LockStageFits Any (lock_or_leave member least)
+settled_fits member least h = go (nat_lt least (number_behind member)) refl
+  where
+    go : (t : Bool) → nat_lt least (number_behind member) ≡ t
+        → PairFits LockStageFits Any (cond t (LeavingLock member least, Ask (LeaveLock member)) (LockDone, Done member))
+    go true e = (h (leb-true (suc least) (number_behind member) e), tt)
+    go false e = (tt, tt)
+
+-- what the taking of a lock does at an answer
+lock_answers_fit : (s : List ℕ) (stage : LockStage) (a : MetaAnswer) → LockStageFits stage → PairFits LockStageFits Any (lock_answers s stage a)
+unfolding lock_answers
+lock_answers_fit s MakingMember (answer.One (Made path)) is = (tt, tt)
+lock_answers_fit s MakingMember (answer.Failed place NoNode) is = (tt, tt)
+lock_answers_fit s MakingMember (answer.Failed place w) is = (tt, tt)
+lock_answers_fit s (ListingMembers member) (answer.One (Names names)) is =
+    settled_fits member (least_of (number_behind member) names)
+    (least_fits (number_behind member) (number_behind member) names (λ below. absurd (omega (arith, below))))
+lock_answers_fit s (ListingMembers member) (answer.Failed place w) is = (tt, tt)
+lock_answers_fit s (LeavingLock member least) (answer.Failed place w) is = (tt, tt)
+lock_answers_fit s (LeavingLock member least) a is = (tt, tt)
+lock_answers_fit s stage a is = (is, tt)
+
+-- what the taking of a lock does at what it hears
+pub lock_fits : (s : List ℕ) (stage : LockStage) (h : Heard) → LockStageFits stage → PairFits LockStageFits Any (lock_hears s stage h)
+lock_fits s stage (Reply a) is = lock_answers_fit s stage a is
+lock_fits s stage (From b m) is = (is, tt)
 
 -- ---- ledgers
 

@@ -39,23 +39,24 @@ use Rattle.dl_rules_stream.specs.Recovers as recover
 use Rattle.dl_rules_stream.specs.LogReaders as reading
 use Rattle.dl_record.specs.Reading.{entry_at}
 use Rattle.dl_types.specs.declared.refusal.Refusal.{Refusal}
-use Rattle.dl_rules_stream.specs.Requests.{Beginning, Completion}
+use Rattle.dl_rules_stream.specs.Requests.{Beginning, Completion, GetLedger, MarkLedger, CloseLedger, GetSegment, StartSegment, CompleteSegment, ListCut}
 use Rattle.dl_rules_stream.specs.Locks.{lock_hears}
 use Rattle.dl_rules_stream.specs.Looks.{Looked, look_hears}
 use Rattle.dl_rules_stream.specs.Allocations.{AllocationStage, allocation_hears}
-use Rattle.dl_rules_client.proofs.RangeLists.{cond_both}
+use Rattle.dl_rules_client.specs.EventRanges.{MsgFits}
+use Rattle.dl_rules_client.proofs.RangeLists.{Any, cond_both}
 use Rattle.dl_rules_client.proofs.OpenRanges.{OpenStageFits, RecoverStageFits}
 use Rattle.dl_rules_client.proofs.TellRanges.{ToldFits, TellsFit, SubjectFits, subject_fits, each_told, tells_fit, within_told, refused_told, lock_told}
 use Rattle.dl_rules_client.proofs.OpenRanges.{OpenStageFits, RecoverStageFits}
-use Rattle.dl_rules_client.proofs.TellRanges.{look_told, allocation_told}
+use Rattle.dl_rules_client.proofs.TellRanges.{look_told, allocation_told, no_way_fits, ResultFits, point_refused, segment_refused, ledger_refused}
 
 -- messages for a write set
-write_told : (x : Subject) (entry : ℕ) (m : Msg) → SubjectFits x → AllByRecursion ToldFits (tell_write_set x entry m)
-write_told x entry m is = each_told (members x.pieces entry) m (is.each entry)
+write_told : (x : Subject) (entry : ℕ) (m : Msg) → MsgFits m → SubjectFits x → AllByRecursion ToldFits (tell_write_set x entry m)
+write_told x entry m fits is = each_told (members x.pieces entry) m fits (is.each entry)
 
 -- messages for the last piece
-last_told : (x : Subject) (m : Msg) → SubjectFits x → AllByRecursion ToldFits (tell_last_piece x m)
-last_told x m is = each_told (last_piece x.pieces).members m is.last
+last_told : (x : Subject) (m : Msg) → MsgFits m → SubjectFits x → AllByRecursion ToldFits (tell_last_piece x m)
+last_told x m fits is = each_told (last_piece x.pieces).members m fits is.last
 
 -- ---- ledgers
 
@@ -67,7 +68,7 @@ CameTold move = AllByRecursion ToldFits move.1
 reads_told : (x : Subject) (start entry : ℕ) → SubjectFits x → CameTold (reads x start entry)
 reads_told x start entry is =
     cond_both CameTold (nat_le entry greatest_entry) (Reading start entry [], tell_write_set x entry (AskEntry x.tag x.ledger entry)) (Exhausted, [])
-    (write_told x entry (AskEntry x.tag x.ledger entry) is) tt
+    (write_told x entry (AskEntry x.tag x.ledger entry) tt is) tt
 
 -- what a recovery tells at a message of a bookie
 recovers_told : (x : Subject) (phase : Phase) (b : ℕ) (m : Msg) → SubjectFits x → CameTold (recovers x phase b m)
@@ -82,7 +83,7 @@ recovers_told x (Reading start entry denials) b (NoEntry t l e true) is =
     (cond_both CameTold (blocks x.pieces entry (among (b ∷ denials))) (Ended entry, []) (Reading start entry (b ∷ denials), []) tt tt) tt
 recovers_told x (Reading start entry denials) b (EntryIs t l e bytes) is =
     cond_both CameTold (is_about_entry x entry b t l e) (after_entry x start entry bytes) (Reading start entry denials, [])
-    (write_told x entry (Copy x.tag x.ledger entry start bytes) is) tt
+    (write_told x entry (Copy x.tag x.ledger entry start bytes) tt is) tt
 recovers_told x (Copying start entry copied) b (CopyOk t l e) is =
     cond_both CameTold (is_about_entry x entry b t l e) (after_copy x start entry (b ∷ copied)) (Copying start entry copied, [])
     (cond_both CameTold (acks x.pieces entry (among (b ∷ copied))) (reads x start (entry + 1)) (Copying start entry (b ∷ copied), [])
@@ -102,7 +103,7 @@ about_fits x m is = subject_fits x.tag x.ledger x.conf.b m.q is
 -- a node that is marked
 after_mark_told : (x : ledger.RecoveryArgs) (m : LedgerNode) (version : ℕ) → IsCount x.conf.b → TellsFit (ledger.after_mark x m version).1
 after_mark_told x m version is =
-    after_move_told x m version (fences (ledger.subject_of x m)) (last_told (ledger.subject_of x m) (AskLac x.tag x.ledger true) (about_fits x m is))
+    after_move_told x m version (fences (ledger.subject_of x m)) (last_told (ledger.subject_of x m) (AskLac x.tag x.ledger true) tt (about_fits x m is))
 
 -- behind a node that was read
 after_node_told : (x : ledger.RecoveryArgs) (version : ℕ) (m : LedgerNode) (s : LedgerState) → IsCount x.conf.b → TellsFit (ledger.after_node x version m s).1
@@ -116,17 +117,18 @@ recovery_answers_told : (x : ledger.RecoveryArgs) (stage : ledger.RecoveryStage)
 unfolding ledger.recovery_answers
 recovery_answers_told x (ledger.GettingNode old) (answer.One (Bytes bytes version)) is =
     refused_told (ledger.WasRefused old) (λ m. ledger.after_node x version m m.state) (ledger_node_of x.conf x.ledger bytes)
+    (ledger_refused x.conf x.ledger bytes)
     (λ m. after_node_told x version m m.state is)
 recovery_answers_told x (ledger.GettingNode old) (answer.Failed place NoNode) is = tt
-recovery_answers_told x (ledger.GettingNode old) (answer.Failed place w) is = tt
+recovery_answers_told x (ledger.GettingNode old) (answer.Failed place w) is = no_way_fits (GetLedger x.ledger) place w
 recovery_answers_told x (ledger.Marking m version) (answer.One (Version now)) is = after_mark_told x (ledger.come_to state.Recovering 0 m) now is
 recovery_answers_told x (ledger.Marking m version) (answer.Failed place NoNode) is = tt
 recovery_answers_told x (ledger.Marking m version) (answer.Failed place (BadVersion now)) is = tt
-recovery_answers_told x (ledger.Marking m version) (answer.Failed place w) is = tt
+recovery_answers_told x (ledger.Marking m version) (answer.Failed place w) is = no_way_fits (MarkLedger x.ledger m.q version) place w
 recovery_answers_told x (ledger.Closing m version count) (answer.One (Version now)) is = tt
 recovery_answers_told x (ledger.Closing m version count) (answer.Failed place NoNode) is = tt
 recovery_answers_told x (ledger.Closing m version count) (answer.Failed place (BadVersion now)) is = tt
-recovery_answers_told x (ledger.Closing m version count) (answer.Failed place w) is = tt
+recovery_answers_told x (ledger.Closing m version count) (answer.Failed place w) is = no_way_fits (CloseLedger x.ledger m.q count version) place w
 recovery_answers_told x stage a is = tt
 
 -- what it does at a message of a bookie
@@ -154,7 +156,7 @@ after_closed_told : (x : segment.SegmentArgs) (l : ℕ) (m : LedgerNode) (count 
 after_closed_told x l m zero is = tt
 after_closed_told x l m (suc last) is =
     tells_fit segment.Recovered (asks_entry (segment.end_subject x l m) last)
-    (write_told (segment.end_subject x l m) last (AskEntry x.tag l last) (about_fits (segment.ledger_args x l) m is))
+    (write_told (segment.end_subject x l m) last (AskEntry x.tag l last) tt (about_fits (segment.ledger_args x l) m is))
 
 -- behind the recovery of the ledger
 after_ledger_told : (x : segment.SegmentArgs) (l : ℕ) (move : ledger.RecoveryStage × Next ℕ) → IsCount x.conf.b → TellsFit move.1
@@ -167,7 +169,8 @@ after_ledger_told x l (stage, next) is told =
 -- a completion fails
 not_completed_told : (c : Completion) (at : ℕ) (w : Why) → TellsFit (segment.not_completed c at w).1
 not_completed_told c at w =
-    cond_both (λ (m : segment.SegmentStage × Next segment.Recovered). TellsFit m.1) (segment.is_completed c.member at w) _ _ tt tt
+    cond_both (λ (m : segment.SegmentStage × Next segment.Recovered). TellsFit m.1) (segment.is_completed c.member at w) _ _ tt
+    (no_way_fits (CompleteSegment c) at w)
 
 -- what it does at an answer
 segment_answers_told : (x : segment.SegmentArgs) (stage : segment.SegmentStage) (a : MetaAnswer) → IsCount x.conf.b
@@ -175,9 +178,10 @@ segment_answers_told : (x : segment.SegmentArgs) (stage : segment.SegmentStage) 
 unfolding segment.segment_answers
 segment_answers_told x segment.GettingSegment (answer.One (Bytes bytes version)) is =
     refused_told segment.SegmentDone (segment.after_segment x) (segment_of x.stream (Progress x.segment) bytes)
+    (segment_refused x.stream (Progress x.segment) bytes)
     (λ m. after_ledger_told x (ledger_of m) (ledger.recovery_first (segment.ledger_args x (ledger_of m))) is tt)
 segment_answers_told x segment.GettingSegment (answer.Failed at NoNode) is = tt
-segment_answers_told x segment.GettingSegment (answer.Failed at w) is = tt
+segment_answers_told x segment.GettingSegment (answer.Failed at w) is = no_way_fits (segment.gets x) at w
 segment_answers_told x (segment.RecoveringLedger l stage) a is =
     after_ledger_told x l (ledger.recovery_hears (segment.ledger_args x l) stage (Reply a)) is (recovery_told (segment.ledger_args x l) stage (Reply a) is)
 segment_answers_told x (segment.Completing c) (answer.Failed at w) is = not_completed_told c at w
@@ -231,7 +235,7 @@ open_after_told x member looked None = allocates_told x member looked
 
 -- the start of a segment
 start_told : (b : Beginning) (a : MetaAnswer) → TellsFit (open_order.start_answers b a).1
-start_told b (answer.Failed place w) = tt
+start_told b (answer.Failed place w) = no_way_fits (StartSegment b) place w
 start_told b (answer.Many answers) = tt
 start_told b (answer.One x) = tt
 
@@ -239,7 +243,7 @@ start_told b (answer.One x) = tt
 pub open_told : (x : open_order.OpenArgs) (stage : open_order.OpenStage) (h : Heard) → OpenStageFits stage → TellsFit (open_order.open_hears x stage h).1
 unfolding open_order.open_hears
 open_told x (open_order.Locking stage) h is =
-    within_told open_order.Locking open_order.OpenDone (open_order.looks x) (lock_hears x.stream stage h) (lock_told x.stream stage h) (λ member. tt)
+    within_told open_order.Locking open_order.OpenDone (open_order.looks x) (lock_hears x.stream stage h) (lock_told x.stream stage h is) (λ member. tt)
 open_told x (open_order.LookingFor member stage) h is =
     within_told (open_order.LookingFor member) open_order.OpenDone (λ looked. open_order.after_look x member looked (last_segment looked.segments))
     (look_hears x.stream stage h) (look_told x.stream stage h) (λ looked. open_after_told x member looked (last_segment looked.segments))
@@ -302,12 +306,12 @@ fetches_fit : (x : reading.ReaderArgs) (r : reading.Read) (w : reading.Walk) (re
 fetches_fit x r w readable entry is =
     cond_both ReadFits (nat_lt entry readable) (reading.FetchingEntry r w readable entry (Fetching entry), tells (asks_entry w.subject entry))
     (reading.walks x r w.rest)
-    (is, tells_fit (List ReadRow) (asks_entry w.subject entry) (write_told w.subject entry (AskEntry w.subject.tag w.subject.ledger entry) is))
+    (is, tells_fit (List ReadRow) (asks_entry w.subject entry) (write_told w.subject entry (AskEntry w.subject.tag w.subject.ledger entry) tt is))
     (walks_fit x r w.rest)
 
 -- how many entries can be read is asked
 counts_fit : (r : reading.Read) (w : reading.Walk) → SubjectFits w.subject → ReadFits (reading.counts r w)
-counts_fit r w is = (is, tells_fit (List ReadRow) (asks_count w.subject) (last_told w.subject (AskLac w.subject.tag w.subject.ledger false) is))
+counts_fit r w is = (is, tells_fit (List ReadRow) (asks_count w.subject) (last_told w.subject (AskLac w.subject.tag w.subject.ledger false) tt is))
 
 -- a segment in progress
 in_progress_fits : (x : reading.ReaderArgs) (r : reading.Read) (w : reading.Walk) (m : LedgerNode) (s : LedgerState) → SubjectFits w.subject
@@ -325,10 +329,10 @@ reader_ledger_fits x r (meta.InProgress number l) rest m is =
     in_progress_fits x r (reading.walk_of x r number l m rest) m m.state (subject_fits r.tag l x.conf.b m.q is)
 
 -- a reading that may be refused
-read_or_refused : {A : Type 0} (go_on : A → reading.ReadMove) (r : Result A Refusal) → ((a : A) → ReadFits (go_on a))
+read_or_refused : {A : Type 0} (go_on : A → reading.ReadMove) (r : Result A Refusal) → ResultFits r Any → ((a : A) → ReadFits (go_on a))
     → ReadFits (or_refused reading.NoRead go_on r)
-read_or_refused go_on (Ok a) h = h a
-read_or_refused go_on (Err why) h = (tt, tt)
+read_or_refused go_on (Ok a) is h = h a
+read_or_refused go_on (Err why) is h = (tt, is)
 
 -- the segments from the cursor's on
 list_fits : (x : reading.ReaderArgs) (r : reading.Read) (names : List SegmentName) (point : Dlsn) → ReadFits (reading.after_list x r names point)
@@ -345,17 +349,20 @@ read_answers_fit : (x : reading.ReaderArgs) (stage : reading.ReadStage) (a : Met
     → ReadFits (reading.read_answers x stage a)
 unfolding reading.read_answers
 read_answers_fit x (reading.ListingCut r) (answer.Many (Names names ∷ Bytes cut version ∷ [])) b is =
-    read_or_refused (reading.after_list x r (segments_of names)) (point_of x.stream cut) (list_fits x r (segments_of names))
+    read_or_refused (reading.after_list x r (segments_of names)) (point_of x.stream cut) (point_refused x.stream cut)
+    (list_fits x r (segments_of names))
 read_answers_fit x (reading.ListingCut r) (answer.Failed at NoNode) b is = (tt, tt)
-read_answers_fit x (reading.ListingCut r) (answer.Failed at w) b is = (tt, tt)
+read_answers_fit x (reading.ListingCut r) (answer.Failed at w) b is = (tt, no_way_fits (ListCut x.stream) at w)
 read_answers_fit x (reading.GettingSegment r name rest) (answer.One (Bytes bytes version)) b is =
-    read_or_refused (reading.after_segment x r (number_of name) rest) (segment_of x.stream name bytes) (λ m. (tt, tt))
+    read_or_refused (reading.after_segment x r (number_of name) rest) (segment_of x.stream name bytes)
+    (segment_refused x.stream name bytes) (λ m. (tt, tt))
 read_answers_fit x (reading.GettingSegment r name rest) (answer.Failed at NoNode) b is = (tt, tt)
-read_answers_fit x (reading.GettingSegment r name rest) (answer.Failed at w) b is = (tt, tt)
+read_answers_fit x (reading.GettingSegment r name rest) (answer.Failed at w) b is = (tt, no_way_fits (GetSegment x.stream name) at w)
 read_answers_fit x (reading.GettingLedger r m number rest) (answer.One (Bytes bytes version)) b is =
-    read_or_refused (reading.after_ledger x r m rest) (ledger_node_of x.conf (ledger_of m) bytes) (λ node. reader_ledger_fits x r m rest node b)
+    read_or_refused (reading.after_ledger x r m rest) (ledger_node_of x.conf (ledger_of m) bytes)
+    (ledger_refused x.conf (ledger_of m) bytes) (λ node. reader_ledger_fits x r m rest node b)
 read_answers_fit x (reading.GettingLedger r m number rest) (answer.Failed at NoNode) b is = gone_fits x r (ledger_of m)
-read_answers_fit x (reading.GettingLedger r m number rest) (answer.Failed at w) b is = (tt, tt)
+read_answers_fit x (reading.GettingLedger r m number rest) (answer.Failed at w) b is = (tt, no_way_fits (GetLedger (ledger_of m)) at w)
 read_answers_fit x stage a b is = (is, tt)
 
 -- how many entries can be read

@@ -10,9 +10,9 @@ use Rattle.dl_text.specs.Hex.{AllBytes}
 use Rattle.dl_text.specs.NameFields.{IsName}
 use Rattle.dl_text.specs.Numbers.{most_u32, most_u64}
 use Rattle.dl_msg.specs.declared.msg.Msg.{Msg}
-use Rattle.dl_schedule.specs.StepLines.{IsClient, IsTxid}
+use Rattle.dl_schedule.specs.StepLines.{IsClient, IsBookie, IsTxid}
 use Rattle.dl_transcript.specs.declared.event.Event.TheVariants as event
-use Rattle.dl_transcript.specs.Ranges.{IsU64}
+use Rattle.dl_transcript.specs.Ranges.{IsU32, IsU64}
 use Rattle.dl_rules_stream.specs.Closes.{CloseArgs, close_first}
 use Rattle.dl_rules_stream.specs.LogWriters.{LogCall, Appends, AppendsSet, Flushes, HearsFrom, LogNow, LogMove, LogState, IsOpen, IsCommitting}
 use Rattle.dl_rules_stream.specs.LogWriters.{HasCommitted, IsClosing, MayClose, IsFenced, log_state, appends, appends_set, log_flushes, commits, closes}
@@ -25,7 +25,7 @@ use Rattle.dl_rules_client.specs.Moves.{refusal_event, with_order}
 use Rattle.dl_rules_client.specs.Writing.{entry_between, entry_of, sent_events, ack_events, move_acts, took_events, refuses_call, takes}
 use Rattle.dl_rules_client.specs.Writing.{appends_one, appends_many, sends, flushes, close_args, begins_close, log_goes_on, order_goes_on, after_call}
 use Rattle.dl_rules_client.specs.Writing.{begins_on_log, begins_commit, begins_confirm, writer_hears}
-use Rattle.dl_rules_client.specs.EventRanges.{FitsItsLine, ArgsFit, set_most}
+use Rattle.dl_rules_client.specs.EventRanges.{RefusalFits, FitsItsLine, ArgsFit, set_most}
 use Rattle.dl_rules_client.proofs.RangeLists.{Any, cond_both}
 use Rattle.dl_rules_client.proofs.RangeLists.{AllSome, all-append, all-map}
 use Rattle.dl_rules_client.proofs.NextRanges.{any_next}
@@ -42,15 +42,17 @@ call_fits : (n : ℕ) (w : WriterView) (call : LogCall) → set_most * n ≤ mos
 unfolding log_of
 call_fits n w call h k is fit = record {
   stream = fit.stream;
+  line = fit.line;
   segment = fit.segment;
   log = log_more (set_most * n + set_most) (set_most * suc n) (suc (suc (2 * n))) (2 * suc n) _ (omega arith) (omega arith)
       (called_fit (set_most * n) (2 * n) (log_now w) call h k is fit.log);
 }
 
 -- a writer behind a message of a bookie
-hears_fits : (n : ℕ) (w : WriterView) (b : ℕ) (m : Msg) → WriterFits n w → WriterFits n (with_call w (HearsFrom b m))
+hears_fits : (n : ℕ) (w : WriterView) (b : ℕ) (m : Msg) → IsBookie b → WriterFits n w → WriterFits n (with_call w (HearsFrom b m))
 unfolding log_of
-hears_fits n w b m fit = record { stream = fit.stream; segment = fit.segment; log = told_fit (set_most * n) (2 * n) (log_now w) b m fit.log }
+hears_fits n w b m from fit =
+    record { stream = fit.stream; line = fit.line; segment = fit.segment; log = told_fit (set_most * n) (2 * n) (log_now w) b m from fit.log }
 
 -- a client with this writer
 writer_fits : (me : ClientArgs) (n k : ℕ) (now : ClientNow) (w : WriterView) → WriterFits n w → NowFits me n k now → NowFits me n k (with_writer now w)
@@ -106,9 +108,9 @@ took_length me s txid call (p ∷ ps) = omega (arith, took_length me s txid (suc
 
 -- a refused call
 refuses_call_fits : (me : ClientArgs) (n k more : ℕ) (now : ClientNow) (w : WriterView) (call : LogCall) (r : Refusal)
-    → IsClient me.number → WriterFits n (with_call w call) → NowFits me n k now → MoveFits me n k more (refuses_call me now w call r)
-refuses_call_fits me n k more now w call r c is fit =
-    refuses_fits me n k more (with_writer now (with_call w call)) r c (writer_fits me n k now (with_call w call) is fit)
+    → IsClient me.number → RefusalFits r → WriterFits n (with_call w call) → NowFits me n k now → MoveFits me n k more (refuses_call me now w call r)
+refuses_call_fits me n k more now w call r c told is fit =
+    refuses_fits me n k more (with_writer now (with_call w call)) r c told (writer_fits me n k now (with_call w call) is fit)
 
 -- a call by which records are taken
 takes_fits : (me : ClientArgs) (n k : ℕ) (now : ClientNow) (w : WriterView) (call : LogCall) (txid : ℕ) (payloads : List (List ℕ))
@@ -118,7 +120,7 @@ takes_fits : (me : ClientArgs) (n k : ℕ) (now : ClientNow) (w : WriterView) (c
 takes_fits me n k now w call txid payloads (Err r) args is taken writer fit result =
     let h : set_most * n ≤ most_u32 = omega (arith, args.calls) in
     let room : suc (2 * n) ≤ most_u64 = omega (arith, args.calls) in
-    refuses_call_fits me (suc n) k 1 now w call r args.number (call_fits n w call h room is writer) (now_more me n k (suc n) now (omega arith) fit)
+    refuses_call_fits me (suc n) k 1 now w call r args.number result (call_fits n w call h room is writer) (now_more me n k (suc n) now (omega arith) fit)
 takes_fits me n k now w call txid payloads (Ok m) args is taken writer fit result =
     let h : set_most * n ≤ most_u32 = omega (arith, args.calls) in
     let room : suc (2 * n) ≤ most_u64 = omega (arith, args.calls) in
@@ -144,35 +146,37 @@ takes_fits me n k now w call txid payloads (Ok m) args is taken writer fit resul
 
 -- the records of a line are such as a writer may take
 origin_fits : (me : ClientArgs) (n k : ℕ) (now : ClientNow) (txid : ℕ) (payloads : List (List ℕ)) → ArgsFit (suc n) k me → NowFits me n k now → IsTxid txid
-    → AllByRecursion AllBytes payloads → length payloads ≤ set_most → IsTaken (next_origin me now) txid payloads
-origin_fits me n k now txid payloads args fit t bytes few = record {
+    → AllByRecursion AllBytes payloads → length payloads ≤ set_most → log.set_size payloads ≤ most_u64 → IsTaken (next_origin me now) txid payloads
+origin_fits me n k now txid payloads args fit t bytes few size = record {
   client = args.number;
   id = t;
   calls = omega (arith, args.calls, fit.taken, few);
   bytes = bytes;
   few = few;
+  size = size;
 }
 
 -- a record is appended
 pub appends_one_fits : (me : ClientArgs) (n k : ℕ) (now : ClientNow) (w : Option WriterView) (txid : ℕ) (payload : List ℕ)
-    → ArgsFit (suc n) k me → IsTxid txid → AllBytes payload → AllSome (WriterFits n) w → NowFits me n k now
+    → ArgsFit (suc n) k me → IsTxid txid → AllBytes payload → log.set_size (payload ∷ []) ≤ most_u64 → AllSome (WriterFits n) w → NowFits me n k now
     → MoveFits me (suc n) k 1 (appends_one me now w txid payload)
-appends_one_fits me n k now None txid payload args t bytes writer fit =
-    refuses_fits me (suc n) k 1 now why.NoWriter args.number (now_more me n k (suc n) now (omega arith) fit)
-appends_one_fits me n k now (Some w) txid payload args t bytes writer fit =
-    let taken = origin_fits me n k now txid (payload ∷ []) args fit t (bytes, tt) (omega arith) in
+appends_one_fits me n k now None txid payload args t bytes size writer fit =
+    refuses_fits me (suc n) k 1 now why.NoWriter args.number tt (now_more me n k (suc n) now (omega arith) fit)
+appends_one_fits me n k now (Some w) txid payload args t bytes size writer fit =
+    let taken = origin_fits me n k now txid (payload ∷ []) args fit t (bytes, tt) (omega arith) size in
     takes_fits me n k now w (Appends (next_origin me now) txid payload) txid (payload ∷ []) (appends (log_now w) (next_origin me now) txid payload)
     args taken taken writer fit
     (appends_fit (set_most * n) (2 * n) (log_now w) (next_origin me now) txid payload (omega (arith, args.calls)) (omega (arith, args.calls)) taken writer.log)
 
 -- a set of records is appended
 pub appends_many_fits : (me : ClientArgs) (n k : ℕ) (now : ClientNow) (w : Option WriterView) (txid : ℕ) (payloads : List (List ℕ))
-    → ArgsFit (suc n) k me → IsTxid txid → AllByRecursion AllBytes payloads → length payloads ≤ set_most → AllSome (WriterFits n) w → NowFits me n k now
+    → ArgsFit (suc n) k me → IsTxid txid → AllByRecursion AllBytes payloads → length payloads ≤ set_most
+    → log.set_size payloads ≤ most_u64 → AllSome (WriterFits n) w → NowFits me n k now
     → MoveFits me (suc n) k 1 (appends_many me now w txid payloads)
-appends_many_fits me n k now None txid payloads args t bytes few writer fit =
-    refuses_fits me (suc n) k 1 now why.NoWriter args.number (now_more me n k (suc n) now (omega arith) fit)
-appends_many_fits me n k now (Some w) txid payloads args t bytes few writer fit =
-    let taken = origin_fits me n k now txid payloads args fit t bytes few in
+appends_many_fits me n k now None txid payloads args t bytes few size writer fit =
+    refuses_fits me (suc n) k 1 now why.NoWriter args.number tt (now_more me n k (suc n) now (omega arith) fit)
+appends_many_fits me n k now (Some w) txid payloads args t bytes few size writer fit =
+    let taken = origin_fits me n k now txid payloads args fit t bytes few size in
     takes_fits me n k now w (AppendsSet (next_origin me now) txid payloads) txid payloads (appends_set (log_now w) (next_origin me now) txid payloads)
     args taken taken writer fit
     (sets_fit (set_most * n) (2 * n) (log_now w) (next_origin me now) txid payloads (omega (arith, args.calls)) (omega (arith, args.calls)) taken writer.log)
@@ -182,7 +186,7 @@ sends_fits : (me : ClientArgs) (n k : ℕ) (now : ClientNow) (w : WriterView) (r
     → ArgsFit (suc n) k me → WriterFits n w → NowFits me n k now → CallFits (set_most * n + set_most) (suc (suc (2 * n))) result
     → MoveFits me (suc n) k 1 (sends me now w result)
 sends_fits me n k now w (Err r) args writer fit result =
-    refuses_call_fits me (suc n) k 1 now w Flushes r args.number
+    refuses_call_fits me (suc n) k 1 now w Flushes r args.number result
     (call_fits n w Flushes (omega (arith, args.calls)) (omega (arith, args.calls)) tt writer) (now_more me n k (suc n) now (omega arith) fit)
 sends_fits me n k now w (Ok m) args writer fit result = record {
   now = writer_fits me (suc n) k now (with_call w Flushes)
@@ -193,7 +197,7 @@ sends_fits me n k now w (Ok m) args writer fit result = record {
 -- a flush
 pub flushes_fits : (me : ClientArgs) (n k : ℕ) (now : ClientNow) (w : Option WriterView) → ArgsFit (suc n) k me → AllSome (WriterFits n) w → NowFits me n k now
     → MoveFits me (suc n) k 1 (flushes me now w)
-flushes_fits me n k now None args writer fit = refuses_fits me (suc n) k 1 now why.NoWriter args.number (now_more me n k (suc n) now (omega arith) fit)
+flushes_fits me n k now None args writer fit = refuses_fits me (suc n) k 1 now why.NoWriter args.number tt (now_more me n k (suc n) now (omega arith) fit)
 flushes_fits me n k now (Some w) args writer fit =
     sends_fits me n k now w (log_flushes (log_now w)) args writer fit
     (flush_fit (set_most * n) (2 * n) (log_now w) (omega (arith, args.calls)) (omega (arith, args.calls)) writer.log)
@@ -204,7 +208,8 @@ flushes_fits me n k now (Some w) args writer fit =
 close_goes_fits : (me : ClientArgs) (n k more : ℕ) (now : ClientNow) (o : Order) (acts : Acts) (args : CloseArgs)
     → IsClient me.number → OrderFits me k o → NowFits me n k now → ActsFit more acts → MoveFits me n k more (begins_close me now o acts args)
 close_goes_fits me n k more now o acts args c order fit acted =
-    goes_fits me n k more now (order_doing o (Closes args [])) acts Any (close_first args).1 _ c (record { stream = order.stream; doing = tt }) fit acted tt
+    goes_fits me n k more now (order_doing o (Closes args [])) acts Any (close_first args).1 _ c
+    (record { stream = order.stream; line = order.line; doing = tt }) fit acted tt
     (any_next (close_first args).1) (λ u p. waits_fits me n k more now o acts order fit acted)
 
 -- a commit or a close goes on
@@ -217,11 +222,11 @@ log_goes_fits me n k more most now w o acts Commits (HasCommitted control) c nam
     ends_fits me n k more now o acts (event.Committed w.stream (place w.opened.segment control 0)) fit acted
     (name, (segment, ((omega arith, omega (arith, small, told)), (omega arith, omega arith))))
 log_goes_fits me n k more most now w o acts Commits (IsFenced bookie) c name segment small told order fit acted =
-    ends_fits me n k more now o acts (refusal_event me (why.Fenced bookie)) fit acted c
+    ends_fits me n k more now o acts (refusal_event me (why.Fenced bookie)) fit acted (c, told)
 log_goes_fits me n k more most now w o acts Confirms (MayClose entries rows last) c name segment small told order fit acted =
     close_goes_fits me n k more now o acts (close_args w entries rows last) c order fit acted
 log_goes_fits me n k more most now w o acts Confirms (IsFenced bookie) c name segment small told order fit acted =
-    ends_fits me n k more now o acts (refusal_event me (why.Fenced bookie)) fit acted c
+    ends_fits me n k more now o acts (refusal_event me (why.Fenced bookie)) fit acted (c, told)
 log_goes_fits me n k more most now w o acts doing state c name segment small told order fit acted = waits_fits me n k more now o acts order fit acted
 
 -- the order under way goes on
@@ -235,14 +240,14 @@ order_goes_fits me n k more now w acts (Some o) c small writer order fit acted =
 
 -- a commit or a close that begins, or is refused
 begins_on_fits : (me : ClientArgs) (n k : ℕ) (now : ClientNow) (line : ℕ) (w : WriterView) (doing : Doing) (call : LogCall) (result : Result LogMove Refusal)
-    → ArgsFit (suc n) k me → IsCall call → ((o : Order) → DoingFits me k o doing) → WriterFits n w → NowFits me n k now
+    → ArgsFit (suc n) k me → IsU32 line → IsCall call → ((o : Order) → DoingFits me k o doing) → WriterFits n w → NowFits me n k now
     → CallFits (set_most * n + set_most) (suc (suc (2 * n))) result → MoveFits me (suc n) k 1 (begins_on_log me now line w doing call result)
-begins_on_fits me n k now line w doing call (Err r) args is does writer fit result =
-    refuses_call_fits me (suc n) k 1 now w call r args.number
+begins_on_fits me n k now line w doing call (Err r) args number is does writer fit result =
+    refuses_call_fits me (suc n) k 1 now w call r args.number result
     (call_fits n w call (omega (arith, args.calls)) (omega (arith, args.calls)) is writer) (now_more me n k (suc n) now (omega arith) fit)
-begins_on_fits me n k now line w doing call (Ok m) args is does writer fit result =
+begins_on_fits me n k now line w doing call (Ok m) args number is does writer fit result =
     let o : Order = record { line = line; stream = w.stream; doing = doing } in
-    let order : OrderFits me k o = record { stream = writer.stream; doing = does o } in
+    let order : OrderFits me k o = record { stream = writer.stream; line = number; doing = does o } in
     let next : WriterView = with_call w call in
     let called : WriterFits (suc n) next = call_fits n w call (omega (arith, args.calls)) (omega (arith, args.calls)) is writer in
     let begun = with_fits me (suc n) k now o order (now_more me n k (suc n) now (omega arith) fit) in
@@ -251,33 +256,35 @@ begins_on_fits me n k now line w doing call (Ok m) args is does writer fit resul
     (move_acts_fit me n k 1 (set_most * n + set_most) (suc (suc (2 * n))) w m args.number (omega (arith, args.calls)) writer result)
 
 -- a commit begins
-pub commit_fits : (me : ClientArgs) (n k : ℕ) (now : ClientNow) (line : ℕ) (w : Option WriterView) → ArgsFit (suc n) k me → AllSome (WriterFits n) w
-    → NowFits me n k now → MoveFits me (suc n) k 1 (begins_commit me now line w)
-commit_fits me n k now line None args writer fit = refuses_fits me (suc n) k 1 now why.NoWriter args.number (now_more me n k (suc n) now (omega arith) fit)
-commit_fits me n k now line (Some w) args writer fit =
-    begins_on_fits me n k now line w Commits log.Commits (commits (log_now w)) args tt (λ o. tt) writer fit
+pub commit_fits : (me : ClientArgs) (n k : ℕ) (now : ClientNow) (line : ℕ) (w : Option WriterView) → ArgsFit (suc n) k me → IsU32 line
+    → AllSome (WriterFits n) w → NowFits me n k now → MoveFits me (suc n) k 1 (begins_commit me now line w)
+commit_fits me n k now line None args number writer fit =
+    refuses_fits me (suc n) k 1 now why.NoWriter args.number tt (now_more me n k (suc n) now (omega arith) fit)
+commit_fits me n k now line (Some w) args number writer fit =
+    begins_on_fits me n k now line w Commits log.Commits (commits (log_now w)) args number tt (λ o. tt) writer fit
     (commit_fit (set_most * n) (2 * n) (log_now w) (omega (arith, args.calls)) (omega (arith, args.calls)) writer.log)
 
 -- a close begins
-pub confirm_fits : (me : ClientArgs) (n k : ℕ) (now : ClientNow) (line : ℕ) (w : Option WriterView) → ArgsFit (suc n) k me → AllSome (WriterFits n) w
-    → NowFits me n k now → MoveFits me (suc n) k 1 (begins_confirm me now line w)
-confirm_fits me n k now line None args writer fit = refuses_fits me (suc n) k 1 now why.NoWriter args.number (now_more me n k (suc n) now (omega arith) fit)
-confirm_fits me n k now line (Some w) args writer fit =
-    begins_on_fits me n k now line w Confirms log.Closes (closes (log_now w)) args tt (λ o. tt) writer fit
+pub confirm_fits : (me : ClientArgs) (n k : ℕ) (now : ClientNow) (line : ℕ) (w : Option WriterView) → ArgsFit (suc n) k me → IsU32 line
+    → AllSome (WriterFits n) w → NowFits me n k now → MoveFits me (suc n) k 1 (begins_confirm me now line w)
+confirm_fits me n k now line None args number writer fit =
+    refuses_fits me (suc n) k 1 now why.NoWriter args.number tt (now_more me n k (suc n) now (omega arith) fit)
+confirm_fits me n k now line (Some w) args number writer fit =
+    begins_on_fits me n k now line w Confirms log.Closes (closes (log_now w)) args number tt (λ o. tt) writer fit
     (close_fit (set_most * n) (2 * n) (log_now w) (omega (arith, args.calls)) (omega (arith, args.calls)) writer.log)
 
 -- ---- what the writer hears
 
 -- an answer to an entry
 pub writer_hears_fits : (me : ClientArgs) (n k : ℕ) (now : ClientNow) (w : Option WriterView) (ledger b : ℕ) (m : Msg)
-    → ArgsFit n k me → AllSome (WriterFits n) w → NowFits me n k now → MoveFits me n k 0 (writer_hears me now w ledger b m)
-writer_hears_fits me n k now None ledger b m args writer fit = stays_fits me n k 0 now fit
-writer_hears_fits me n k now (Some w) ledger b m args writer fit =
+    → ArgsFit n k me → IsBookie b → AllSome (WriterFits n) w → NowFits me n k now → MoveFits me n k 0 (writer_hears me now w ledger b m)
+writer_hears_fits me n k now None ledger b m args from writer fit = stays_fits me n k 0 now fit
+writer_hears_fits me n k now (Some w) ledger b m args from writer fit =
     let next : WriterView = with_call w (HearsFrom b m) in
-    let heard : WriterFits n next = hears_fits n w b m writer in
+    let heard : WriterFits n next = hears_fits n w b m from writer in
     cond_both (MoveFits me n k 0) (ledger == w.opened.ledger) (after_call me now w (HearsFrom b m) (log_hears (log_now w) b m)) (stays now no_acts)
     (order_goes_fits me n k 0 (with_writer now next) next (move_acts me w (log_hears (log_now w) b m)) now.order args.number (omega (arith, args.calls)) heard
     fit.order (writer_fits me n k now next heard fit)
     (move_acts_fit me n k 0 (set_most * n) (2 * n) w (log_hears (log_now w) b m) args.number (omega (arith, args.calls)) writer
-    (hears_fit (set_most * n) (2 * n) (log_now w) b m writer.log)))
+    (hears_fit (set_most * n) (2 * n) (log_now w) b m from writer.log)))
     (stays_fits me n k 0 now fit)
