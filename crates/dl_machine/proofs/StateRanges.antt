@@ -34,7 +34,7 @@ use Rattle.dl_rules_client.proofs.RangeLists.{AllOk}
 use Rattle.dl_formats.specs.declared.fault.MetaBytesFault.{MetaBytesFault}
 use Rattle.dl_formats.specs.Keys as key
 use Rattle.dl_rules_nodes.specs.Bookies.{Bookie, Waiting, Reply, Taken, Looks, Answers, Queues, table_row, answer_now, after, replies_of, after_commit}
-use Rattle.dl_rules_nodes.specs.Bookies.{add_row, copy_row, fence_row, lac_of, durable, queued_items, is_fenced, lacking}
+use Rattle.dl_rules_nodes.specs.Bookies.{add_row, copy_row, fence_row, lac_of, durable, queued_items, has_fence, lacking}
 use Rattle.dl_rules_nodes.specs.Bookies.{if_room, with_room, entry_answer, look_answer, told_after, all_items}
 use Rattle.dl_msg.specs.declared.resource.Resource.{Resource}
 use Rattle.dl_rules_nodes.specs.Items.{Item, is_add, is_entry, is_fence, MetaItem, Setup, Connect, Expire, Ask}
@@ -485,12 +485,12 @@ table_fits : (k : Bookie) (m : Msg) → TakenFits (table_row k m)
 unfolding table_row
 table_fits k (msg.Add l e n bytes) =
     room_fits k l (Some e) (add_row k l e n bytes)
-    (add_fits l e (list_any (is_add l e) (durable k)) (is_fenced k l) (list_any (is_add l e) (queued_items k)) (list_any (is_fence l) (queued_items k)) _)
+    (add_fits l e (list_any (is_add l e) (durable k)) (has_fence k l) (list_any (is_add l e) (queued_items k)) (list_any (is_fence l) (queued_items k)) _)
 table_fits k (msg.Copy t l e n bytes) =
     room_fits k l (Some e) (copy_row k t l e n bytes)
     (copy_fits t l e (list_any (is_entry l e) (durable k)) (list_any (is_entry l e) (queued_items k)) _)
 table_fits k (msg.AskLac t l true) = room_fits k l None (fence_row k t l)
-    (fence_fits k t l (is_fenced k l) (list_any (is_fence l) (queued_items k)) _)
+    (fence_fits k t l (has_fence k l) (list_any (is_fence l) (queued_items k)) _)
 table_fits k m = tt
 
 -- the answer to an asked entry
