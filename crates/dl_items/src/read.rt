@@ -8,12 +8,12 @@ ghost use Rattle.dl_items.specs.Reading.{ruled_kind, fields_and_entry, IsFront};
 
 use crate::head::Head;
 use crate::kind::{ADD, COPY, FENCE, Kind};
-use dl_record::limits::ENTRY_MAX;
 use dl_fields::fault::Fault;
 use dl_fields::number::{read_u8, read_u64};
 use dl_fields::run::read_run_u32;
 use dl_record::check::check_entry;
 use dl_record::entry_flaw::EntryFlaw;
+use dl_record::limits::ENTRY_MAX;
 
 /// An item as it stands in some bytes: what it has beside its entry's bytes, and those; a fence has none.
 #[derive(Clone, Copy, Debug)]
