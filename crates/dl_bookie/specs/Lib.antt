@@ -1,0 +1,13 @@
+pub mod Rows
+pub mod Pieces
+pub mod Facts
+pub mod Standing
+pub mod Taking
+pub mod Storing
+pub mod Following
+pub mod Settling
+pub mod Releasing
+pub mod Committing
+pub mod Looking
+pub mod Making
+pub mod Waiting
