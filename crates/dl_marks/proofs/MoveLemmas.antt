@@ -30,7 +30,7 @@ or_some false = refl
 
 -- ---- ledgers
 
-greatest_push : (l : ℕ) (xs : List Item) (x : Item) → greatest l (xs ++ x ∷ []) ≡ max (greatest l xs) (count_in l x)
+pub greatest_push : (l : ℕ) (xs : List Item) (x : Item) → greatest l (xs ++ x ∷ []) ≡ max (greatest l xs) (count_in l x)
 greatest_push l [] x = omega arith
 greatest_push l (y ∷ xs) x = ap (max (count_in l y)) (greatest_push l xs x) ∙ turn (count_in l y) (greatest l xs) (count_in l x)
   where

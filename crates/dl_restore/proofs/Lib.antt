@@ -1,0 +1,3 @@
+pub mod CheckLemmas
+pub mod EntryLemmas
+pub mod EntryLoops
