@@ -37,17 +37,17 @@ greatest_push l (y ∷ xs) x = ap (max (count_in l y)) (greatest_push l xs x) �
     turn : (a b c : ℕ) → max a (max b c) ≡ max (max a b) c
     turn a b c = omega arith
 
-fence_false : (l : ℕ) (x : Item) → is_of l x ≡ false → is_fence l x ≡ false
+pub fence_false : (l : ℕ) (x : Item) → is_of l x ≡ false → is_fence l x ≡ false
 fence_false l (AddItem m f n bytes) h = refl
 fence_false l (CopyItem m f n bytes) h = refl
 fence_false l (FenceItem m) h = h
 
-count_zero : (l : ℕ) (x : Item) → is_of l x ≡ false → count_in l x ≡ 0
+pub count_zero : (l : ℕ) (x : Item) → is_of l x ≡ false → count_in l x ≡ 0
 count_zero l (AddItem m f n bytes) h = ap (λ t. if t then n else 0) h
 count_zero l (CopyItem m f n bytes) h = ap (λ t. if t then n else 0) h
 count_zero l (FenceItem m) h = refl
 
-max_zero : (a b : ℕ) → b ≡ 0 → max a b ≡ a
+pub max_zero : (a b : ℕ) → b ≡ 0 → max a b ≡ a
 max_zero a b z = omega (arith, z)
 
 ledger_skip : (before todo settled : List Item) (l : ℕ) (x : Item) → is_of l x ≡ false
@@ -150,17 +150,17 @@ entries_move b done todo (head.Fence m) bytes old new was kept l e =
     ∙ ap (λ (xs : List Item). entry_known xs todo (done ++ FenceItem m ∷ []) (or_place (place_of b.batches l e) (place_in (gate_of b.batches + 13) (done ++ FenceItem m ∷ []) l e)) l e)
     (append_assoc (durable b) done (FenceItem m ∷ []))
 
-head_of_item : (h : Head) (bytes : List ℕ) (l : ℕ) → is_of l (item_of h bytes) ≡ (ledger_in h == l)
+pub head_of_item : (h : Head) (bytes : List ℕ) (l : ℕ) → is_of l (item_of h bytes) ≡ (ledger_in h == l)
 head_of_item (head.Add m f n) bytes l = refl
 head_of_item (head.Copy m f n) bytes l = refl
 head_of_item (head.Fence m) bytes l = refl
 
-fences : (h : Head) (bytes : List ℕ) (l : ℕ) → (ledger_in h == l) ≡ true → is_fence l (item_of h bytes) ≡ is_fence_head h
+pub fences : (h : Head) (bytes : List ℕ) (l : ℕ) → (ledger_in h == l) ≡ true → is_fence l (item_of h bytes) ≡ is_fence_head h
 fences (head.Add m f n) bytes l w = refl
 fences (head.Copy m f n) bytes l w = refl
 fences (head.Fence m) bytes l w = w
 
-counts : (h : Head) (bytes : List ℕ) (l : ℕ) → (ledger_in h == l) ≡ true → count_in l (item_of h bytes) ≡ count_of h
+pub counts : (h : Head) (bytes : List ℕ) (l : ℕ) → (ledger_in h == l) ≡ true → count_in l (item_of h bytes) ≡ count_of h
 counts (head.Add m f n) bytes l w = ap (λ t. if t then n else 0) w
 counts (head.Copy m f n) bytes l w = ap (λ t. if t then n else 0) w
 counts (head.Fence m) bytes l w = refl

@@ -144,13 +144,13 @@ there_by before done old m f holds =
     if_some true x = refl
     if_some false x = refl
 
-abbrev one_if : Bool → ℕ
+abbrev pub one_if : Bool → ℕ
 one_if t = if t then 1 else 0
 
-abbrev one_unless : Bool → ℕ
+abbrev pub one_unless : Bool → ℕ
 one_unless t = if t then 0 else 1
 
-one_new : (s t : Bool) → s ≡ t → one_unless s ≡ one_if (not t)
+pub one_new : (s t : Bool) → s ≡ t → one_unless s ≡ one_if (not t)
 one_new s t e = ap one_unless e ∙ turn t
   where
     turn : (t : Bool) → one_unless t ≡ one_if (not t)

@@ -33,7 +33,7 @@ pub record First (x : Item) (more : List ℕ) (todo : List Item) : Type 0 where
 abbrev pair : Item → List ℕ → Item × List ℕ
 pair x rest = (x, rest)
 
-first_is : (rest more : List ℕ) (x : Item) (todo : List Item) → item_from rest ≡ Ok (x, more) → length more < length rest → AllByRecursion IsItem todo → rest ≡ body_of todo → First x more todo
+pub first_is : (rest more : List ℕ) (x : Item) (todo : List Item) → item_from rest ≡ Ok (x, more) → length more < length rest → AllByRecursion IsItem todo → rest ≡ body_of todo → First x more todo
 first_is rest more x [] e less valid spelt = absurd (omega (arith, less, ap length spelt))
 first_is rest more x (y ∷ ys) e less valid spelt =
     let again : item_from rest ≡ Ok (y, body_of ys) = ap item_from (spelt ∙ flat_map-cons item_bytes y ys) ∙ items_are_exact.again y (body_of ys) valid.0 in
