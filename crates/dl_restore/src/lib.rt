@@ -4,4 +4,6 @@
 
 pub mod check;
 pub mod entries;
+pub mod fault;
 pub mod ledgers;
+pub mod restore;
