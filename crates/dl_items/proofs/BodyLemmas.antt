@@ -1,5 +1,5 @@
 -- A body is read item by item.
-use Rattle.std.proofs.Common.{◌≡◌, ℕ, zero, suc, ◌+◌, ◌<◌, ◌≤◌, Bool, true, false, ◌||◌, ◌==◌, nat_lt, if◌then◌else◌, List, [], ◌∷◌, ◌++◌, length, Result, Ok, Err, refl, sym, ap, ◌∙◌, arith, true≢false}
+use Rattle.std.proofs.Common.{◌≡◌, ℕ, zero, suc, ◌<◌, ◌≤◌, true, false, ◌==◌, List, [], ◌∷◌, length, Result, Ok, Err, refl, sym, ap, ◌∙◌, arith, true≢false}
 use Rattle.std.proofs.lemmas.Bool.{eqb-true}
 use Rattle.dl_codec.specs.Fields.{IsBytes}
 use Rattle.dl_fields.specs.declared.fault.Fault.{Fault}
@@ -9,7 +9,7 @@ use Rattle.dl_rules_nodes.specs.Limits.{longest_batch}
 use Rattle.dl_rules_nodes.specs.Items.{Item, item_bytes, body_of}
 use Rattle.dl_rules_nodes.specs.Reading.{item_from, items_upto, items_in}
 use Rattle.dl_rules_nodes.proofs.ItemLaws.{lengths_are_of_bytes, bodies_are_exact}
-use Rattle.dl_items.specs.Reading.{IsFront, verdict, IsBody}
+use Rattle.dl_items.specs.Reading.{verdict, IsBody}
 use Rattle.dl_items.proofs.ReadLemmas.{read_front}
 
 -- as many turns as there are bytes are enough, and more change nothing

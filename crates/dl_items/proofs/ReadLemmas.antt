@@ -1,5 +1,5 @@
 -- What the reading of an item says of its bytes.
-use Rattle.std.proofs.Common.{◌≡◌, ℕ, ◌+◌, ◌<◌, ◌≤◌, List, ◌++◌, length, None, Ok, sym, ap, ◌∙◌, arith, length-append}
+use Rattle.std.proofs.Common.{◌≡◌, ℕ, ◌≤◌, List, length, None, Ok, sym, ap, ◌∙◌, arith, length-append}
 use Rattle.dl_codec.specs.Fields.{IsBytes}
 use Rattle.dl_record.specs.Grammar.{IsEntryBytes}
 use Rattle.dl_record.specs.Reading.{entry_at}

@@ -1,13 +1,13 @@
 -- The table of entries counts one item more.
-use Rattle.std.proofs.Common.{◌≡◌, ℕ, ◌+◌, ◌<◌, ◌≤◌, ◌⊎◌, inl, inr, Bool, true, false, not, ◌==◌, ◌&&◌, ◌||◌, if◌then◌else◌, List, [], ◌∷◌, ◌++◌, length, Option, Some, None, is_some, IsSome, refl, sym, ap, subst, ◌∙◌, arith, append-nil, append_assoc}
-use Rattle.std.specs.List.{list_any, flat_map}
+use Rattle.std.proofs.Common.{◌≡◌, ℕ, ◌+◌, ◌<◌, ◌≤◌, ◌⊎◌, inl, inr, Bool, true, false, not, ◌==◌, ◌&&◌, ◌||◌, if◌then◌else◌, List, [], ◌∷◌, ◌++◌, length, Option, Some, None, is_some, IsSome, refl, sym, ap, ◌∙◌, arith, append-nil, append_assoc}
+use Rattle.std.specs.List.{list_any}
 use Rattle.std.proofs.lemmas.Bool.{eqb-true}
 use Rattle.std.proofs.lemmas.List.Folds.{list_any-append}
 use Rattle.std.proofs.lemmas.Grind.{flat_map-append}
 use Rattle.dl_rules_nodes.specs.Limits.{most_entries}
 use Rattle.dl_rules_nodes.specs.Items.{Item, AddItem, CopyItem, FenceItem, items_length, entry_in, is_add, is_entry}
 use Rattle.dl_rules_nodes.specs.Counts.{count_new, is_new_entry, entries_count}
-use Rattle.dl_rules_nodes.specs.Bookies.{Bookie, gate_of}
+use Rattle.dl_rules_nodes.specs.Bookies.{gate_of}
 use Rattle.dl_items.specs.declared.head.Head.{Head}
 use Rattle.dl_items.specs.declared.head.Head.TheVariants as head
 use Rattle.dl_items.specs.Heads.{item_of}
@@ -23,7 +23,7 @@ use Rattle.dl_marks.proofs.KeepLemmas.{place_push}
 use Rattle.dl_marks.proofs.MoveLemmas.{or_assoc, or_nothing}
 use Rattle.dl_marks.proofs.MovedLemmas.{from_push}
 use Rattle.dl_restore.specs.Bodies.{all_of}
-use Rattle.dl_restore.specs.Entries.{entry_added, EntryAdded, NoEntryRoom, AddsEntryOf, EntriesHold, BatchesAdded}
+use Rattle.dl_restore.specs.Entries.{entry_added, EntryAdded, NoEntryRoom, AddsEntryOf, EntriesHold}
 
 or_none : (a : Bool) → (a || false) ≡ a
 or_none true = refl

@@ -1,6 +1,6 @@
 -- The loops over the items of a body, and over bodies, that count entries.
-use Rattle.std.proofs.Common.{◌≡◌, ℕ, ◌+◌, ◌-◌, ◌<◌, ◌≤◌, Bool, true, false, List, [], ◌∷◌, ◌++◌, length, Result, Ok, Err, refl, sym, ap, subst, ◌∙◌, arith, append-nil, append_assoc, length-append}
-use Rattle.std.specs.List.{AllByRecursion, flat_map}
+use Rattle.std.proofs.Common.{◌≡◌, ℕ, ◌+◌, ◌-◌, ◌<◌, true, false, List, [], ◌∷◌, ◌++◌, length, Ok, Err, sym, ap, subst, ◌∙◌, arith, append-nil, append_assoc, length-append}
+use Rattle.std.specs.List.{AllByRecursion}
 use Rattle.std.proofs.lemmas.Grind.{flat_map-append}
 use Rattle.std.proofs.lemmas.List.Concat.{flat_map-cons}
 use Rattle.std.proofs.lemmas.List.Sums.{sum_by-cons, sum_by-append}
@@ -18,8 +18,8 @@ use Rattle.dl_items.specs.Heads.{item_of}
 use Rattle.dl_items.specs.Reading.{IsFront}
 use Rattle.dl_marks.specs.Tables.{Entries}
 use Rattle.dl_restore.specs.Bodies.{Spells, AllSpell, all_of}
-use Rattle.dl_restore.specs.Entries.{AddsEntryOf, EntriesHold, BatchAdded, Underway, BatchesUnderway}
-use Rattle.dl_restore.proofs.EntryLemmas.{place_after, entry_step, entry_full, count_more, entries_next}
+use Rattle.dl_restore.specs.Entries.{AddsEntryOf, EntriesHold, Underway, BatchesUnderway}
+use Rattle.dl_restore.proofs.EntryLemmas.{entry_step, entry_full, count_more, entries_next}
 
 -- ---- items
 

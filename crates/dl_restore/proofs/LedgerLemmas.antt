@@ -1,6 +1,6 @@
 -- The table of ledgers counts one item more.
-use Rattle.std.proofs.Common.{◌≡◌, ℕ, ◌+◌, ◌<◌, ◌≤◌, ◌⊎◌, inl, inr, max, Bool, true, false, not, ◌==◌, ◌||◌, if◌then◌else◌, List, [], ◌∷◌, ◌++◌, length, Option, Some, None, is_some, IsSome, Result, Ok, Err, refl, sym, ap, subst, ◌∙◌, arith, append-nil, append_assoc}
-use Rattle.std.specs.List.{list_any, flat_map, AllByRecursion}
+use Rattle.std.proofs.Common.{◌≡◌, ℕ, ◌+◌, ◌<◌, ◌≤◌, ◌⊎◌, inl, inr, max, Bool, true, false, not, ◌==◌, ◌||◌, if◌then◌else◌, List, [], ◌∷◌, ◌++◌, length, Option, Some, None, is_some, IsSome, Ok, Err, refl, sym, ap, subst, ◌∙◌, arith, append-nil, append_assoc}
+use Rattle.std.specs.List.{list_any, AllByRecursion}
 use Rattle.std.proofs.lemmas.Bool.{eqb-true}
 use Rattle.std.proofs.lemmas.Grind.{flat_map-append}
 use Rattle.std.proofs.lemmas.List.Concat.{flat_map-cons}
@@ -23,7 +23,7 @@ use Rattle.dl_marks.proofs.MoveLemmas.{greatest_push, fence_false, count_zero, m
 use Rattle.dl_restore.specs.Bodies.{Spells, AllSpell, all_of}
 use Rattle.dl_restore.specs.Ledgers.{ledger_added, LedgerAdded, NoLedgerRoom, LedgersHold, LedgersUnderway, LedgerBatchesUnderway}
 use Rattle.dl_restore.proofs.EntryLemmas.{one_if, one_unless, one_new, count_more, all_push}
-use Rattle.dl_restore.proofs.EntryLoops.{First, first_is}
+use Rattle.dl_restore.proofs.EntryLoops.{first_is}
 
 or_none : (a : Bool) → (a || false) ≡ a
 or_none true = refl

@@ -1,16 +1,16 @@
 -- The passes over the batches together are a load.
-use Rattle.std.proofs.Common.{◌≡◌, ℕ, zero, suc, ◌+◌, ◌<◌, ◌≤◌, Bool, true, false, ◌==◌, ◌||◌, nat_lt, if◌then◌else◌, List, [], ◌∷◌, ◌++◌, length, Result, Ok, Err, refl, sym, ap, subst, ◌∙◌, arith, append-nil, length-append}
+use Rattle.std.proofs.Common.{◌≡◌, ℕ, ◌+◌, ◌<◌, ◌≤◌, Bool, true, false, ◌==◌, ◌||◌, nat_lt, if◌then◌else◌, List, [], ◌∷◌, ◌++◌, length, Result, Ok, Err, refl, sym, ap, ◌∙◌, arith, append-nil, length-append}
 use Rattle.std.specs.List.{AllByRecursion}
 use Rattle.std.proofs.lemmas.Bool.Decides.{nat_tests}
 use Rattle.std.proofs.lemmas.List.Concat.{flat_map-cons}
 use Rattle.dl_fields.proofs.ReaderLemmas.{err_is}
 use Rattle.dl_msg.specs.declared.resource.Resource.TheVariants.{Index, Ledgers}
 use Rattle.dl_rules_nodes.specs.Limits.{longest_batch, most_entries, most_ledgers}
-use Rattle.dl_rules_nodes.specs.Items.{Item, body_of, item_bytes, items_length, IsBatch}
+use Rattle.dl_rules_nodes.specs.Items.{Item, body_of, item_bytes, IsBatch}
 use Rattle.dl_rules_nodes.specs.Counts.{entries_count, ledgers_count}
 use Rattle.dl_rules_nodes.specs.Bookies.{Bookie}
 use Rattle.dl_rules_nodes.specs.Reading.{batch_at, placed, items_in}
-use Rattle.dl_rules_nodes.specs.Loads.{◌>>=◌, LoadStop, IsDamaged, IsCrowded, batches_at, taken_over, or_damaged, loaded_bookie}
+use Rattle.dl_rules_nodes.specs.Loads.{◌>>=◌, IsDamaged, IsCrowded, batches_at, taken_over, or_damaged, loaded_bookie}
 use Rattle.dl_rules_nodes.proofs.ItemLaws.{lengths_are_of_bytes, bodies_are_exact}
 use Rattle.dl_items.specs.Reading.{verdict, IsBody}
 use Rattle.dl_items.proofs.ReadLemmas.{some_bytes}
@@ -19,7 +19,7 @@ use Rattle.dl_marks.specs.Places.{place_of}
 use Rattle.dl_marks.specs.Known.{entry_known}
 use Rattle.dl_marks.proofs.BoolLemmas.{or_false}
 use Rattle.dl_marks.proofs.MoveLemmas.{or_nothing}
-use Rattle.dl_restore.specs.Bodies.{Spells, AllSpell, all_of}
+use Rattle.dl_restore.specs.Bodies.{AllSpell, all_of}
 use Rattle.dl_restore.specs.Entries.{EntriesHold}
 use Rattle.dl_restore.specs.Ledgers.{LedgersHold}
 use Rattle.dl_restore.specs.Restoring.{Restored}

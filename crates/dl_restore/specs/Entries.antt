@@ -1,5 +1,5 @@
 -- The table of entries while the items of batches are counted into it.
-use Rattle.std.specs.Prelude.{◌≡◌, ◌<◌, ◌≤◌, ◌⊎◌, ℕ, ◌+◌, Bool, true, false, ◌==◌, ◌&&◌, ◌||◌, if◌then◌else◌, List, [], ◌∷◌, ◌++◌, length, Option, Some, None, is_some, IsSome}
+use Rattle.std.specs.Prelude.{◌≡◌, ◌<◌, ◌≤◌, ◌⊎◌, ℕ, ◌+◌, Bool, true, false, ◌==◌, ◌&&◌, ◌||◌, if◌then◌else◌, List, [], ◌++◌, length, Option, Some, None, is_some, IsSome}
 use Rattle.std.specs.List.{AllByRecursion}
 use Rattle.dl_rules_nodes.specs.Limits.{most_entries}
 use Rattle.dl_rules_nodes.specs.Items.{Item, items_length, body_of, IsItem}

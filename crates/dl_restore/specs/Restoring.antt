@@ -1,6 +1,5 @@
 -- What the batches of a journal leave in the tables of a storage node.
 use Rattle.std.specs.Prelude.{◌≡◌, ℕ, List, [], length, Result, Ok, Err}
-use Rattle.dl_rules_nodes.specs.Items.{Item}
 use Rattle.dl_rules_nodes.specs.Counts.{entries_count, ledgers_count}
 use Rattle.dl_rules_nodes.specs.Bookies.{Bookie, durable, queued, all_items}
 use Rattle.dl_rules_nodes.specs.Loads.{LoadStop, IsDamaged, IsCrowded, loaded_bookie}

@@ -1,4 +1,4 @@
-use Rattle.std.proofs.Common.{◌≡◌, ◌≤◌, length}
+use Rattle.std.proofs.Common.{◌≡◌, length}
 use Rattle.dl_codec.specs.Fields.{IsBytes}
 use Rattle.dl_rules_nodes.specs.Reading.{items_in}
 use Rattle.dl_items.specs.Reading.{verdict}

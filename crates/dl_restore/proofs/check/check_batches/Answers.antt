@@ -1,4 +1,4 @@
-use Rattle.std.proofs.Common.{◌≡◌, ◌+◌, ◌∷◌, drop, sym, ◌∙◌}
+use Rattle.std.proofs.Common.{◌+◌, drop, sym, ◌∙◌}
 use Rattle.dl_restore.proofs.CheckLemmas.{next_batch, check_on, check_stop, check_end, found_on, found_end, fits_on}
 use Rattle.dl_restore.proofs.check.check_batches.Goals as goal
 

@@ -1,6 +1,4 @@
-use Rattle.std.proofs.Common.{sym, ap, arith}
-use Rattle.dl_items.specs.Heads.{item_of}
-use Rattle.dl_restore.specs.Entries.{AddsEntryOf}
+use Rattle.std.proofs.Common.{arith}
 use Rattle.dl_restore.proofs.EntryLoops.{underway_step, underway_full, underway_end}
 use Rattle.dl_restore.proofs.entries.add_body.Goals as goal
 

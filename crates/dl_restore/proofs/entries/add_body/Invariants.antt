@@ -1,4 +1,4 @@
-use Rattle.std.proofs.Common.{◌≡◌, ◌+◌, ℕ, List, [], length}
+use Rattle.std.proofs.Common.{◌≡◌, ◌+◌, List, [], length}
 use Rattle.dl_rules_nodes.specs.Items.{Item}
 use Rattle.dl_rules_nodes.specs.Bookies.{gate_of}
 use Rattle.dl_restore.specs.Bodies.{Spells}

@@ -1,7 +1,5 @@
-use Rattle.std.proofs.Common.{◌≡◌, ◌+◌, ◌<◌, ◌∷◌, [], drop, length, refl, sym, ap, subst, ◌∙◌, arith}
+use Rattle.std.proofs.Common.{◌+◌, [], drop, refl, sym, subst}
 use Rattle.std.proofs.Math.ListN.{drop_of_length-le}
-use Rattle.dl_journal.specs.declared.batch.Batch.{Batch}
-use Rattle.dl_rules_nodes.specs.Items.{Item}
 use Rattle.dl_restore.specs.Bodies.{bodies_of}
 use Rattle.dl_restore.specs.Entries.{EntriesHold, BatchesUnderway}
 use Rattle.dl_restore.proofs.CheckLemmas.{next_batch, next_body, fits_on, fits_one}

@@ -1,4 +1,4 @@
-use Rattle.std.proofs.Common.{◌≡◌, ◌+◌, ◌<◌, ℕ, List, [], ◌++◌, length, drop}
+use Rattle.std.proofs.Common.{◌+◌, ◌<◌, List, length, drop}
 use Rattle.dl_journal.specs.Limits.{journal_limit}
 use Rattle.dl_journal.specs.Batches.{spell}
 use Rattle.dl_rules_nodes.specs.Items.{Item}
