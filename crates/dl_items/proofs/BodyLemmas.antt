@@ -32,6 +32,7 @@ upto_enough (suc n) (suc m) (c ∷ cs) fits a b = go (λ rest. upto_enough n m r
         let more : IsBytes x.1 = bytes_behind (item_bytes x.0) x.1 (c ∷ cs) f.spelt fits in
         ap (λ (r : Result (List Item) Fault). r >>= λ xs. Ok (x.0 ∷ xs)) (enough x.1 more (omega (arith, f.less, a)) (omega (arith, f.less, b)))
 
+-- one item more in front changes no verdict
 verdict_more : (x : Item) (r : Result (List Item) Fault) → verdict (r >>= λ xs. Ok (x ∷ xs)) ≡ verdict r
 verdict_more x (Ok xs) = refl
 verdict_more x (Err fault) = refl
@@ -45,7 +46,8 @@ reads_on (c ∷ cs) x rest fits e =
     let more : IsBytes rest = bytes_behind (item_bytes x) rest (c ∷ cs) f.spelt fits in
     ap (λ (r : Result (Item × List ℕ) Fault). verdict (r >>= λ y. items_upto (length cs) y.1 >>= λ xs. Ok (y.0 ∷ xs))) e
     ∙ (verdict_more x (items_upto (length cs) rest)
-    ∙ ap (λ (r : Result (List Item) Fault). verdict r) (upto_enough (length cs) (length rest) rest more (omega (arith, f.less)) (let le : length rest ≤ length rest = omega arith in le)))
+    ∙ ap (λ (r : Result (List Item) Fault). verdict r)
+    (upto_enough (length cs) (length rest) rest more (omega (arith, f.less)) (let le : length rest ≤ length rest = omega arith in le)))
 
 -- a fault of the first item is that of all
 pub stops_at : (bytes : List ℕ) (fault : Fault) → 0 < length bytes → item_from bytes ≡ Err fault → verdict (items_in bytes) ≡ Err fault
@@ -61,10 +63,12 @@ reads_none (c ∷ cs) none = absurd (omega (arith, none))
 
 -- ---- a batch
 
+-- a verdict without a fault comes from items
 found_in : (body : List ℕ) (r : Result (List Item) Fault) → items_in body ≡ r → verdict r ≡ Ok tt → (items : List Item) × (items_in body ≡ Ok items)
 found_in body (Ok items) e v = (items, e)
 found_in body (Err fault) e v = absurd cc
 
+-- a body that is not empty has an item
 some_items : (body : List ℕ) (items : List Item) → body ≡ body_of items → 0 < length body → 0 < length items
 some_items body [] e some = absurd (omega (arith, some, ap length e))
 some_items body (x ∷ xs) e some = omega arith
@@ -78,9 +82,11 @@ is_body body fits some short v =
 
 -- ---- tests of emptiness
 
+-- what is not 0 is more than 0
 pub not_none : (n : ℕ) → false ≡ (n == 0) → 0 < n
 not_none zero e = absurd (true≢false (sym e))
 not_none (suc n) e = omega arith
 
+-- a test against 0 that holds
 pub is_none : (n : ℕ) → true ≡ (n == 0) → n ≡ 0
 is_none n e = eqb-true n 0 (sym e)

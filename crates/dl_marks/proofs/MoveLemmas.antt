@@ -1,6 +1,7 @@
 -- The next item of a queue becomes durable.
 use Rattle.std.proofs.Common.{◌≡◌, ℕ, ◌+◌, max, Bool, true, false, not, ◌&&◌, ◌||◌, ◌==◌, List, [], ◌∷◌, ◌++◌, length, Option, Some, None, if◌then◌else◌, sym}
 use Rattle.std.proofs.Common.{refl, ap, ◌∙◌, arith, append_assoc}
+use Rattle.std.proofs.Math.Bool.{or-false, or-true}
 use Rattle.std.specs.List.{list_any}
 use Rattle.std.proofs.lemmas.Bool.{eqb-true}
 use Rattle.std.proofs.lemmas.List.Folds.{list_any-append}
@@ -20,16 +21,6 @@ use Rattle.dl_marks.specs.Moving.{Moving}
 use Rattle.dl_marks.proofs.BoolLemmas.{first_of, second_of}
 use Rattle.dl_marks.proofs.KnownLemmas.{any_push}
 use Rattle.dl_marks.proofs.KeepLemmas.{keep_skip, keep_push, place_push}
-
--- a test or none
-or_none : (a : Bool) → (a || false) ≡ a
-or_none true = refl
-or_none false = refl
-
--- a test or one that holds
-or_some : (a : Bool) → (a || true) ≡ true
-or_some true = refl
-or_some false = refl
 
 -- ---- ledgers
 
@@ -65,9 +56,9 @@ ledger_skip before todo settled l x other =
     (x ∷ []) todo) in
     let none : is_fence l x ≡ false = fence_false l x other in
     let fence : list_any (is_fence l) (before ++ x ∷ []) ≡ list_any (is_fence l) before =
-    any_push (is_fence l) before x ∙ ap (λ b. list_any (is_fence l) before || b) none ∙ or_none (list_any (is_fence l) before) in
+    any_push (is_fence l) before x ∙ ap (λ b. list_any (is_fence l) before || b) none ∙ or-false (list_any (is_fence l) before) in
     let done : list_any (is_fence l) (settled ++ x ∷ []) ≡ list_any (is_fence l) settled =
-    any_push (is_fence l) settled x ∙ ap (λ b. list_any (is_fence l) settled || b) none ∙ or_none (list_any (is_fence l) settled) in
+    any_push (is_fence l) settled x ∙ ap (λ b. list_any (is_fence l) settled || b) none ∙ or-false (list_any (is_fence l) settled) in
     let most : greatest l (before ++ x ∷ []) ≡ greatest l before = greatest_push l before x
     ∙ max_zero (greatest l before) (count_in l x) (count_zero l x other) in
     λ i. if all i then Some (record { fenced = fence i; fencing = not (done i) && (sym none i || list_any (is_fence l) todo); greatest = most i }) else None
@@ -97,7 +88,7 @@ ledger_push before todo settled l x is =
   where
     was : list_any (is_of l) (before ++ x ∷ todo) ≡ true
     was = list_any-append (is_of l) before (x ∷ todo) ∙ ap (λ b. list_any (is_of l) before || (b || list_any (is_of l) todo)) is
-        ∙ or_some (list_any (is_of l) before)
+        ∙ or-true (list_any (is_of l) before)
 
     there : list_any (is_of l) ((before ++ x ∷ []) ++ todo) ≡ true
     there = ap (list_any (is_of l)) (append_assoc before (x ∷ []) todo) ∙ was

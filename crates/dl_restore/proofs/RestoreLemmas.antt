@@ -1,5 +1,6 @@
 -- The passes over the batches together are a load.
-use Rattle.std.proofs.Common.{◌≡◌, ℕ, ◌+◌, ◌<◌, ◌≤◌, Bool, true, false, ◌==◌, ◌||◌, nat_lt, if◌then◌else◌, List, [], ◌∷◌, ◌++◌, length, Result, Ok, Err, refl, sym, ap, ◌∙◌, arith, append-nil, length-append}
+use Rattle.std.proofs.Common.{◌≡◌, ℕ, ◌+◌, ◌<◌, ◌≤◌, Bool, true, false, ◌==◌, ◌||◌, nat_lt, if◌then◌else◌, List, [], ◌∷◌, ◌++◌, length, Result, Ok, Err, refl}
+use Rattle.std.proofs.Common.{sym, ap, ◌∙◌, arith, append-nil, length-append}
 use Rattle.std.specs.List.{AllByRecursion}
 use Rattle.std.proofs.lemmas.Bool.Decides.{nat_tests}
 use Rattle.std.proofs.lemmas.List.Concat.{flat_map-cons}
@@ -35,16 +36,20 @@ is_damaged first at bodies e = go (batches_at 8 bodies) e
 
 -- ---- reading what is spelt
 
+-- what is more than 0 is not 0
 not_none : (n : ℕ) → 0 < n → (n == 0) ≡ false
 not_none n some = grind (arith, nat_tests)
 
+-- what is at most a number is not above it
 not_long : (m n : ℕ) → n ≤ m → nat_lt m n ≡ false
 not_long m n le = grind (arith, nat_tests)
 
+-- the choice where the test fails
 chosen : {A : Type 0} (t : Bool) (x y : A) → t ≡ false → (if t then x else y) ≡ y
 chosen true x y e = absurd (let k : true ≡ false = e in cc)
 chosen false x y e = refl
 
+-- a batch with an item has a body that is not empty
 body_some : (items : List Item) → 0 < length items → 0 < length (body_of items)
 body_some [] some = absurd (omega (arith, some))
 body_some (x ∷ xs) some = omega (arith, ap length (flat_map-cons item_bytes x xs), length-append (item_bytes x) (body_of xs), some_bytes x)
@@ -62,6 +67,7 @@ pub record AllRead (gate : ℕ) (bodies : List (List ℕ)) (batches : List (List
   pub read : batches_at gate bodies ≡ Ok batches
   pub spell : AllSpell bodies batches
 
+-- bodies that spell batches are read as them
 read_all : (gate : ℕ) (bodies : List (List ℕ)) → AllByRecursion IsBody bodies → (batches : List (List Item)) × AllRead gate bodies batches
 unfolding batches_at
 read_all gate [] all = ([], record { read = refl; spell = tt })
@@ -70,7 +76,8 @@ read_all gate (body ∷ bodies) all =
     let more = read_all (gate + 13 + length body) bodies all.1 in (
       one.0 ∷ more.0,
       record {
-        read = ap (λ (r : Result (List Item) ℕ). r >>= λ items. batches_at (gate + 13 + length body) bodies >>= λ batches. Ok (items ∷ batches)) (read_one gate body one.0 one.1 one.2)
+        read = ap (λ (r : Result (List Item) ℕ). r >>= λ items. batches_at (gate + 13 + length body) bodies >>= λ batches. Ok (items ∷ batches))
+            (read_one gate body one.0 one.1 one.2)
             ∙ ap (λ (r : Result (List (List Item)) ℕ). r >>= λ batches. Ok (one.0 ∷ batches)) more.1.read;
         spell = (record { valid = one.1.each; spelt = one.2 }, more.1.spell);
       },
@@ -78,13 +85,16 @@ read_all gate (body ∷ bodies) all =
 
 -- ---- the answers
 
+-- a load of what is read is that of the tables
 loads : (first : ℕ) (bodies : List (List ℕ)) (batches : List (List Item)) → AllRead 8 bodies batches → loaded_bookie first bodies ≡ taken_over first batches
 unfolding loaded_bookie
 loads first bodies batches all = ap (λ (r : Result (List (List Item)) ℕ). or_damaged r >>= λ xs. taken_over first xs) all.read
 
+-- what is above a number is tested so
 over : (m n : ℕ) → m < n → nat_lt m n ≡ true
 over m n lt = grind (arith, nat_tests)
 
+-- the choice where the test holds
 picked : {A : Type 0} (t : Bool) (x y : A) → t ≡ true → (if t then x else y) ≡ x
 picked true x y e = refl
 picked false x y e = absurd (let k : false ≡ true = e in cc)
@@ -96,6 +106,7 @@ is_crowded first bodies all many =
     let r = read_all 8 bodies all in
     loads first bodies r.0 r.1 ∙ picked _ _ _ (over most_entries (entries_count (all_of r.0)) (many r.0 r.1.spell))
 
+-- a table that holds all items shows that their entries are few enough
 hold_few : (items : List (List Item)) (es : tables.Entries) → EntriesHold items [] es → entries_count (all_of items) ≤ most_entries
 hold_few items es h = omega (arith, h.count, h.few, ap entries_count (append-nil (all_of items)))
 

@@ -1,5 +1,6 @@
 -- The table of entries while the items of batches are counted into it.
-use Rattle.std.specs.Prelude.{◌≡◌, ◌<◌, ◌≤◌, ◌⊎◌, ℕ, ◌+◌, Bool, true, false, ◌==◌, ◌&&◌, ◌||◌, if◌then◌else◌, List, [], ◌++◌, length, Option, Some, None, is_some, IsSome}
+use Rattle.std.specs.Prelude.{◌≡◌, ◌<◌, ◌≤◌, ◌⊎◌, ℕ, ◌+◌, Bool, true, false, ◌==◌, ◌&&◌, ◌||◌, if◌then◌else◌, List, [], ◌++◌, length, Option, Some, None}
+use Rattle.std.specs.Prelude.{is_some, IsSome}
 use Rattle.std.specs.List.{AllByRecursion}
 use Rattle.dl_rules_nodes.specs.Limits.{most_entries}
 use Rattle.dl_rules_nodes.specs.Items.{Item, items_length, body_of, IsItem}
@@ -44,7 +45,8 @@ AddsEntryOf old new (head.Fence l) place false = ⊥
 
 -- The table says what these batches say of each entry, and the first items of the next one.
 pub record EntriesHold (before : List (List Item)) (done : List Item) (entries : Entries) : Type 0 where
-  pub each : (l e : ℕ) → marks_at entries l e ≡ entry_known (all_of before ++ done) [] [] (or_place (place_of before l e) (place_in (gate_of before + 13) done l e)) l e
+  pub each : (l e : ℕ) → marks_at entries l e
+      ≡ entry_known (all_of before ++ done) [] [] (or_place (place_of before l e) (place_in (gate_of before + 13) done l e)) l e
   pub count : length entries ≡ entries_count (all_of before ++ done)
   pub few : length entries ≤ most_entries
 

@@ -1,5 +1,6 @@
 -- The table of ledgers while items are counted into it.
-use Rattle.std.specs.Prelude.{◌≡◌, ◌<◌, ◌≤◌, ◌⊎◌, ℕ, ◌+◌, max, Bool, true, false, ◌==◌, ◌||◌, if◌then◌else◌, List, [], ◌++◌, length, Option, Some, None, is_some, IsSome}
+use Rattle.std.specs.Prelude.{◌≡◌, ◌<◌, ◌≤◌, ◌⊎◌, ℕ, ◌+◌, max, Bool, true, false, ◌==◌, ◌||◌, if◌then◌else◌, List, [], ◌++◌, length, Option, Some, None}
+use Rattle.std.specs.Prelude.{is_some, IsSome}
 use Rattle.std.specs.List.{AllByRecursion}
 use Rattle.dl_rules_nodes.specs.Limits.{most_ledgers}
 use Rattle.dl_rules_nodes.specs.Items.{Item, body_of, IsItem}
@@ -18,7 +19,8 @@ ledger_added (Some m) fence count = record { fenced = m.fenced || fence; fencing
 
 -- The marks of this item's ledger count it, and no others.
 pub record LedgerAdded (old new : Ledgers) (h : Head) : Type 0 where
-  pub each : (l : ℕ) → ledger_at new l ≡ (if ledger_in h == l then Some (ledger_added (ledger_at old (ledger_in h)) (is_fence_head h) (count_of h)) else ledger_at old l)
+  pub each : (l : ℕ) → ledger_at new l
+      ≡ (if ledger_in h == l then Some (ledger_added (ledger_at old (ledger_in h)) (is_fence_head h) (count_of h)) else ledger_at old l)
   pub count : length new ≡ length old + (if is_some (ledger_at old (ledger_in h)) then 0 else 1)
   pub room : (length old < most_ledgers) ⊎ IsSome (ledger_at old (ledger_in h))
 

@@ -12,7 +12,8 @@ loop-rest-init c = record { same = refl; bytes = λ i. omega (arith, c.type_inv.
 pub returns-in_err-_item : goal.returns-in_err-_item
 returns-in_err-_item c =
     let p = err_from_is_err_and c.from_residual.result c.from_residual.ensures.1 in
-    rw (p.1, p.2) (sym c.loop-rest.invariant.same ∙ stops_at c.loop-rest.rest.now c.in_err-_item.field-0.0 (not_none (length c.loop-rest.rest.now) c.loop-rest-test.ensures) c.in_err-_item.ensures.exact)
+    rw (p.1, p.2) (sym c.loop-rest.invariant.same
+    ∙ stops_at c.loop-rest.rest.now c.in_err-_item.field-0.0 (not_none (length c.loop-rest.rest.now) c.loop-rest-test.ensures) c.in_err-_item.ensures.exact)
 
 pub loop-rest-preserved : goal.loop-rest-preserved
 loop-rest-preserved c =

@@ -5,4 +5,5 @@ use Rattle.dl_items.proofs.read.read_item.Goals as goal
 
 pub returns-clause-found : goal.returns-clause-found
 returns-clause-found c =
-    read_front c.args.bytes.now (item_of c.in_ok-item.item.head c.in_ok-item.item.entry.now) c.in_ok-item.rest.now (λ i. omega (arith, c.type_inv.bytes i)) c.in_ok-item.ensures.exact
+    read_front c.args.bytes.now (item_of c.in_ok-item.item.head c.in_ok-item.item.entry.now) c.in_ok-item.rest.now (λ i. omega (arith, c.type_inv.bytes i))
+    c.in_ok-item.ensures.exact

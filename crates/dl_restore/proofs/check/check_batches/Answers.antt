@@ -16,8 +16,10 @@ loop-batch-preserved c =
     let rest = drop (i + 1) c.args.batches.now in
     let e = next_batch c.args.batches.now i c.batch-item.result c.loop-batch-test.true c.batch-item.is in
     record {
-      same = sym (check_on c.loop-batch.gate c.as_slice-body.result.now c.batch-item.result now rest e c.as_slice-body.ensures c.in-Ok.ensures.exact) ∙ c.loop-batch.invariant.same;
-      found = λ all. c.loop-batch.invariant.found (found_on c.as_slice-body.result.now c.batch-item.result now rest e c.as_slice-body.ensures c.in-Ok.ensures.found all);
+      same = sym (check_on c.loop-batch.gate c.as_slice-body.result.now c.batch-item.result now rest e c.as_slice-body.ensures c.in-Ok.ensures.exact)
+          ∙ c.loop-batch.invariant.same;
+      found = λ all. c.loop-batch.invariant.found
+          (found_on c.as_slice-body.result.now c.batch-item.result now rest e c.as_slice-body.ensures c.in-Ok.ensures.found all);
       fits = fits_on c.loop-batch.gate c.as_slice-body.result.now c.batch-item.result now rest e c.as_slice-body.ensures c.loop-batch.invariant.fits;
     }
 

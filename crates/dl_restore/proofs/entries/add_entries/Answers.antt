@@ -24,7 +24,8 @@ pub add_body-requires : goal.add_body-requires
 add_body-requires c =
     let i = c.loop-batch.batch-index in
     let e = next_batch c.args.batches.now i c.batch-item.result c.loop-batch-test.true c.batch-item.is in
-    fits_one c.loop-batch.gate c.as_slice-body.result.now c.batch-item.result (drop i c.args.batches.now) (drop (i + 1) c.args.batches.now) e c.as_slice-body.ensures c.loop-batch.invariant.fits
+    fits_one c.loop-batch.gate c.as_slice-body.result.now c.batch-item.result (drop i c.args.batches.now) (drop (i + 1) c.args.batches.now) e
+    c.as_slice-body.ensures c.loop-batch.invariant.fits
 
 pub returns-then-not-add_body : goal.returns-then-not-add_body
 returns-then-not-add_body c = λ items spell.

@@ -9,5 +9,6 @@ use Rattle.dl_restore.proofs.entries.add_entries.Given as goal
 abbrev pub invariant-loop-batch : goal.invariant-loop-batch
 invariant-loop-batch l = record {
   fits : l.gate + length (spell (drop l.batch-index l.batches)) < journal_limit;
-  underway : (items : List (List Item)) → AllSpell (bodies_of l.batches) items → BatchesUnderway items l.gate (bodies_of (drop l.batch-index l.batches)) l.entries;
+  underway : (items : List (List Item)) → AllSpell (bodies_of l.batches) items
+      → BatchesUnderway items l.gate (bodies_of (drop l.batch-index l.batches)) l.entries;
 }

@@ -12,9 +12,11 @@ returns-then-not-add_ledger_of c = λ before items spells holds.
 
 pub loop-item-preserved : goal.loop-item-preserved
 loop-item-preserved c = λ before items spells holds.
-    ledgers_go_on (before ++ items) c.loop-item.rest.now c.in-Ok.more.now c.in-Ok.item.head c.in-Ok.item.entry.now c.loop-item.ledgers c.add_ledger_of.new.ledgers
+    ledgers_go_on (before ++ items) c.loop-item.rest.now c.in-Ok.more.now c.in-Ok.item.head c.in-Ok.item.entry.now c.loop-item.ledgers
+    c.add_ledger_of.new.ledgers
     c.in-Ok.ensures.exact c.in-Ok.ensures.found c.if-not-add_ledger_of.ensures (c.loop-item.invariant before items spells holds)
 
 pub returns : goal.returns
 returns c = λ before items spells holds.
-    ledgers_end (before ++ items) c.loop-item.rest.now c.in_default.field-0 c.loop-item.ledgers c.in_default.ensures.exact (c.loop-item.invariant before items spells holds)
+    ledgers_end (before ++ items) c.loop-item.rest.now c.in_default.field-0 c.loop-item.ledgers c.in_default.ensures.exact
+    (c.loop-item.invariant before items spells holds)

@@ -10,8 +10,10 @@ returns-then-not-add_entries c = λ first. is_crowded first (bodies_of c.args.ba
 
 pub returns-then-not-add_ledgers : goal.returns-then-not-add_ledgers
 returns-then-not-add_ledgers c = λ first.
-    is_crowded_with first (bodies_of c.args.batches.now) c.add_entries.new.entries c.in-Ok.ensures.found c.if-not-add_entries.ensures c.if-not-add_ledgers.ensures
+    is_crowded_with first (bodies_of c.args.batches.now) c.add_entries.new.entries c.in-Ok.ensures.found c.if-not-add_entries.ensures
+    c.if-not-add_ledgers.ensures
 
 pub returns : goal.returns
 returns c = λ first.
-    is_restored first (bodies_of c.args.batches.now) c.add_entries.new.entries c.add_ledgers.new.ledgers c.in-Ok.ensures.found c.if-not-add_entries.ensures c.if-not-add_ledgers.ensures
+    is_restored first (bodies_of c.args.batches.now) c.add_entries.new.entries c.add_ledgers.new.ledgers c.in-Ok.ensures.found c.if-not-add_entries.ensures
+    c.if-not-add_ledgers.ensures
