@@ -7,3 +7,5 @@ pub mod head;
 mod kind;
 pub mod put;
 pub mod read;
+#[cfg(test)]
+mod tests;
