@@ -11,7 +11,7 @@ use Rattle.dl_rules_nodes.specs.Items.{Item}
 use Rattle.dl_rules_nodes.specs.Reading.{batch_at}
 use Rattle.dl_rules_nodes.specs.Loads.{◌>>=◌, batches_at}
 use Rattle.dl_items.specs.Reading.{verdict, IsBody}
-use Rattle.dl_restore.specs.Bodies.{bodies_of}
+use Rattle.dl_restore.specs.Bodies.{bodies_of, FitFile}
 
 -- one batch more in front changes no verdict
 verdict_more : (items : List Item) (r : Result (List (List Item)) ℕ) → verdict (r >>= λ batches. Ok (items ∷ batches)) ≡ verdict r
@@ -49,6 +49,10 @@ none_left gate = refl
 -- how many bytes the spelling of one batch more has
 pub spell_length : (b : Batch) (bs : List Batch) → length (spell (b ∷ bs)) ≡ 13 + length b.body + length (spell bs)
 spell_length b bs = omega (arith, length-framed b.number b.body, length-append (frame_of b.number b.body) (spell bs))
+
+-- two batches with short bodies fit a journal's file
+pub two_fit : (a b : Batch) → length a.body ≤ 1000 → length b.body ≤ 1000 → FitFile (a ∷ b ∷ [])
+two_fit a b x y = omega (arith, spell_length a (b ∷ []), spell_length b [], x, y)
 
 -- ---- a loop over batches
 

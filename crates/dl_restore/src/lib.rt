@@ -7,3 +7,5 @@ pub mod entries;
 pub mod fault;
 pub mod ledgers;
 pub mod restore;
+#[cfg(test)]
+mod tests;
