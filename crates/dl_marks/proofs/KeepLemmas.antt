@@ -1,6 +1,7 @@
 -- An item that waited first becomes durable.
 use Rattle.std.proofs.Common.{◌≡◌, ℕ, ◌+◌, Bool, true, false, not, ◌&&◌, ◌||◌, List, [], ◌∷◌, ◌++◌, length, Option, Some, None, if◌then◌else◌, sym, refl, ap}
 use Rattle.std.proofs.Common.{◌∙◌, arith, append_assoc}
+use Rattle.std.proofs.Math.Bool.{or-false, or-true}
 use Rattle.std.specs.List.{list_any}
 use Rattle.std.proofs.lemmas.List.Folds.{list_any-append}
 use Rattle.std.proofs.lemmas.List.Sums.{sum_by-cons}
@@ -10,16 +11,6 @@ use Rattle.dl_marks.specs.Keeping.{entry_kept}
 use Rattle.dl_marks.specs.Places.{place_in, or_place}
 use Rattle.dl_marks.specs.Known.{entry_known}
 use Rattle.dl_marks.proofs.KnownLemmas.{any_push, add_false}
-
--- a test or none
-or_none : (a : Bool) → (a || false) ≡ a
-or_none true = refl
-or_none false = refl
-
--- a test or one that holds
-or_some : (a : Bool) → (a || true) ≡ true
-or_some true = refl
-or_some false = refl
 
 -- all items stay, and their order
 all_same : (before todo : List Item) (x : Item) → (before ++ x ∷ []) ++ todo ≡ before ++ x ∷ todo
@@ -32,9 +23,9 @@ keep_skip before todo settled place l e x other =
     let all : list_any (is_entry l e) ((before ++ x ∷ []) ++ todo) ≡ list_any (is_entry l e) (before ++ x ∷ todo) = ap (list_any (is_entry l e))
     (all_same before todo x) in
     let add : list_any (is_add l e) (before ++ x ∷ []) ≡ list_any (is_add l e) before =
-    any_push (is_add l e) before x ∙ ap (λ b. list_any (is_add l e) before || b) (add_false l e x other) ∙ or_none (list_any (is_add l e) before) in
+    any_push (is_add l e) before x ∙ ap (λ b. list_any (is_add l e) before || b) (add_false l e x other) ∙ or-false (list_any (is_add l e) before) in
     let done : list_any (is_entry l e) (settled ++ x ∷ []) ≡ list_any (is_entry l e) settled =
-    any_push (is_entry l e) settled x ∙ ap (λ b. list_any (is_entry l e) settled || b) other ∙ or_none (list_any (is_entry l e) settled) in
+    any_push (is_entry l e) settled x ∙ ap (λ b. list_any (is_entry l e) settled || b) other ∙ or-false (list_any (is_entry l e) settled) in
     λ i. if all i then Some (record {
       added = add i;
       place = place;
@@ -62,13 +53,13 @@ keep_push before todo settled place now l e x is =
   where
     was : list_any (is_entry l e) (before ++ x ∷ todo) ≡ true
     was = list_any-append (is_entry l e) before (x ∷ todo) ∙ ap (λ b. list_any (is_entry l e) before || (b || list_any (is_entry l e) todo)) is
-        ∙ or_some (list_any (is_entry l e) before)
+        ∙ or-true (list_any (is_entry l e) before)
 
     there : list_any (is_entry l e) ((before ++ x ∷ []) ++ todo) ≡ true
     there = ap (list_any (is_entry l e)) (all_same before todo x) ∙ was
 
     done : list_any (is_entry l e) (settled ++ x ∷ []) ≡ true
-    done = any_push (is_entry l e) settled x ∙ ap (λ b. list_any (is_entry l e) settled || b) is ∙ or_some (list_any (is_entry l e) settled)
+    done = any_push (is_entry l e) settled x ∙ ap (λ b. list_any (is_entry l e) settled || b) is ∙ or-true (list_any (is_entry l e) settled)
 
 -- ---- places
 

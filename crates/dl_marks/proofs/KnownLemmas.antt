@@ -1,5 +1,6 @@
 -- What is known of an entry and of a ledger where one item more waits.
 use Rattle.std.proofs.Common.{◌≡◌, ℕ, max, Bool, true, false, ◌||◌, List, [], ◌∷◌, ◌++◌, Option, Some, None, if◌then◌else◌, true≢false, sym, refl, ap, ◌∙◌}
+use Rattle.std.proofs.Math.Bool.{or-false, or-true}
 use Rattle.std.specs.List.{list_any}
 use Rattle.std.proofs.lemmas.List.Folds.{list_any-append}
 use Rattle.dl_rules_nodes.specs.Items.{Item, AddItem, CopyItem, FenceItem, is_add, is_entry, is_fence, is_of, greatest}
@@ -40,24 +41,14 @@ no_add l e (x ∷ xs) h =
     ap (λ b. b || list_any (is_add l e) xs) (add_false l e x (or_left (is_entry l e x) (list_any (is_entry l e) xs) h))
     ∙ no_add l e xs (or_right (is_entry l e x) (list_any (is_entry l e) xs) h)
 
--- a test or none
-or_none : (a : Bool) → (a || false) ≡ a
-or_none true = refl
-or_none false = refl
-
--- a test or one that holds
-or_some : (a : Bool) → (a || true) ≡ true
-or_some true = refl
-or_some false = refl
-
 -- an item of another entry changes nothing
 pub known_skip : (before todo : List Item) (place : Option Place) (l e : ℕ) (x : Item) → is_entry l e x ≡ false
     → entry_known before (todo ++ x ∷ []) [] place l e ≡ entry_known before todo [] place l e
 known_skip before todo place l e x other =
     let entry : list_any (is_entry l e) (todo ++ x ∷ []) ≡ list_any (is_entry l e) todo =
-    any_push (is_entry l e) todo x ∙ ap (λ b. list_any (is_entry l e) todo || b) other ∙ or_none (list_any (is_entry l e) todo) in
+    any_push (is_entry l e) todo x ∙ ap (λ b. list_any (is_entry l e) todo || b) other ∙ or-false (list_any (is_entry l e) todo) in
     let add : list_any (is_add l e) (todo ++ x ∷ []) ≡ list_any (is_add l e) todo =
-    any_push (is_add l e) todo x ∙ ap (λ b. list_any (is_add l e) todo || b) (add_false l e x other) ∙ or_none (list_any (is_add l e) todo) in
+    any_push (is_add l e) todo x ∙ ap (λ b. list_any (is_add l e) todo || b) (add_false l e x other) ∙ or-false (list_any (is_add l e) todo) in
     let all : list_any (is_entry l e) (before ++ (todo ++ x ∷ [])) ≡ list_any (is_entry l e) (before ++ todo) =
     list_any-append (is_entry l e) before (todo ++ x ∷ []) ∙ ap (λ b. list_any (is_entry l e) before || b) entry
     ∙ sym (list_any-append (is_entry l e) before todo) in
@@ -71,14 +62,14 @@ known_push before todo place l e x is none =
     go (list_any (is_entry l e) (before ++ todo)) refl
   where
     entry : list_any (is_entry l e) (todo ++ x ∷ []) ≡ true
-    entry = any_push (is_entry l e) todo x ∙ ap (λ b. list_any (is_entry l e) todo || b) is ∙ or_some (list_any (is_entry l e) todo)
+    entry = any_push (is_entry l e) todo x ∙ ap (λ b. list_any (is_entry l e) todo || b) is ∙ or-true (list_any (is_entry l e) todo)
 
     add : list_any (is_add l e) (todo ++ x ∷ []) ≡ (list_any (is_add l e) todo || is_add l e x)
     add = any_push (is_add l e) todo x
 
     all : list_any (is_entry l e) (before ++ (todo ++ x ∷ [])) ≡ true
     all = list_any-append (is_entry l e) before (todo ++ x ∷ []) ∙ ap (λ b. list_any (is_entry l e) before || b) entry
-        ∙ or_some (list_any (is_entry l e) before)
+        ∙ or-true (list_any (is_entry l e) before)
 
     now : entry_known before (todo ++ x ∷ []) [] place l e ≡ Some (record {
       added = list_any (is_add l e) before;
@@ -144,9 +135,9 @@ no_count l (x ∷ xs) h =
 pub ledger_skip : (before todo : List Item) (l : ℕ) (x : Item) → is_of l x ≡ false → ledger_known before (todo ++ x ∷ []) [] l ≡ ledger_known before todo [] l
 ledger_skip before todo l x other =
     let of : list_any (is_of l) (todo ++ x ∷ []) ≡ list_any (is_of l) todo =
-    any_push (is_of l) todo x ∙ ap (λ b. list_any (is_of l) todo || b) other ∙ or_none (list_any (is_of l) todo) in
+    any_push (is_of l) todo x ∙ ap (λ b. list_any (is_of l) todo || b) other ∙ or-false (list_any (is_of l) todo) in
     let fence : list_any (is_fence l) (todo ++ x ∷ []) ≡ list_any (is_fence l) todo =
-    any_push (is_fence l) todo x ∙ ap (λ b. list_any (is_fence l) todo || b) (fence_false l x other) ∙ or_none (list_any (is_fence l) todo) in
+    any_push (is_fence l) todo x ∙ ap (λ b. list_any (is_fence l) todo || b) (fence_false l x other) ∙ or-false (list_any (is_fence l) todo) in
     let all : list_any (is_of l) (before ++ (todo ++ x ∷ [])) ≡ list_any (is_of l) (before ++ todo) =
     list_any-append (is_of l) before (todo ++ x ∷ []) ∙ ap (λ b. list_any (is_of l) before || b) of ∙ sym (list_any-append (is_of l) before todo) in
     λ i. if all i then Some (record { fenced = list_any (is_fence l) before; fencing = fence i; greatest = greatest l before }) else None
@@ -157,13 +148,13 @@ pub ledger_push : (before todo : List Item) (l : ℕ) (x : Item) → is_of l x �
 ledger_push before todo l x is = go (list_any (is_of l) (before ++ todo)) refl
   where
     of : list_any (is_of l) (todo ++ x ∷ []) ≡ true
-    of = any_push (is_of l) todo x ∙ ap (λ b. list_any (is_of l) todo || b) is ∙ or_some (list_any (is_of l) todo)
+    of = any_push (is_of l) todo x ∙ ap (λ b. list_any (is_of l) todo || b) is ∙ or-true (list_any (is_of l) todo)
 
     fence : list_any (is_fence l) (todo ++ x ∷ []) ≡ (list_any (is_fence l) todo || is_fence l x)
     fence = any_push (is_fence l) todo x
 
     all : list_any (is_of l) (before ++ (todo ++ x ∷ [])) ≡ true
-    all = list_any-append (is_of l) before (todo ++ x ∷ []) ∙ ap (λ b. list_any (is_of l) before || b) of ∙ or_some (list_any (is_of l) before)
+    all = list_any-append (is_of l) before (todo ++ x ∷ []) ∙ ap (λ b. list_any (is_of l) before || b) of ∙ or-true (list_any (is_of l) before)
 
     now : ledger_known before (todo ++ x ∷ []) [] l ≡ Some (record {
       fenced = list_any (is_fence l) before;

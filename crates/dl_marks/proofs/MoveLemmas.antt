@@ -1,6 +1,7 @@
 -- The next item of a queue becomes durable.
 use Rattle.std.proofs.Common.{◌≡◌, ℕ, ◌+◌, max, Bool, true, false, not, ◌&&◌, ◌||◌, ◌==◌, List, [], ◌∷◌, ◌++◌, length, Option, Some, None, if◌then◌else◌, sym}
 use Rattle.std.proofs.Common.{refl, ap, ◌∙◌, arith, append_assoc}
+use Rattle.std.proofs.Math.Bool.{or-false, or-true}
 use Rattle.std.specs.List.{list_any}
 use Rattle.std.proofs.lemmas.Bool.{eqb-true}
 use Rattle.std.proofs.lemmas.List.Folds.{list_any-append}
@@ -21,20 +22,10 @@ use Rattle.dl_marks.proofs.BoolLemmas.{first_of, second_of}
 use Rattle.dl_marks.proofs.KnownLemmas.{any_push}
 use Rattle.dl_marks.proofs.KeepLemmas.{keep_skip, keep_push, place_push}
 
--- a test or none
-or_none : (a : Bool) → (a || false) ≡ a
-or_none true = refl
-or_none false = refl
-
--- a test or one that holds
-or_some : (a : Bool) → (a || true) ≡ true
-or_some true = refl
-or_some false = refl
-
 -- ---- ledgers
 
 -- the greatest count with one item more
-greatest_push : (l : ℕ) (xs : List Item) (x : Item) → greatest l (xs ++ x ∷ []) ≡ max (greatest l xs) (count_in l x)
+pub greatest_push : (l : ℕ) (xs : List Item) (x : Item) → greatest l (xs ++ x ∷ []) ≡ max (greatest l xs) (count_in l x)
 greatest_push l [] x = omega arith
 greatest_push l (y ∷ xs) x = ap (max (count_in l y)) (greatest_push l xs x) ∙ turn (count_in l y) (greatest l xs) (count_in l x)
   where
@@ -42,19 +33,19 @@ greatest_push l (y ∷ xs) x = ap (max (count_in l y)) (greatest_push l xs x) �
     turn a b c = omega arith
 
 -- an item of another ledger is no fence of this one
-fence_false : (l : ℕ) (x : Item) → is_of l x ≡ false → is_fence l x ≡ false
+pub fence_false : (l : ℕ) (x : Item) → is_of l x ≡ false → is_fence l x ≡ false
 fence_false l (AddItem m f n bytes) h = refl
 fence_false l (CopyItem m f n bytes) h = refl
 fence_false l (FenceItem m) h = h
 
 -- an item of another ledger carries no count of this one
-count_zero : (l : ℕ) (x : Item) → is_of l x ≡ false → count_in l x ≡ 0
+pub count_zero : (l : ℕ) (x : Item) → is_of l x ≡ false → count_in l x ≡ 0
 count_zero l (AddItem m f n bytes) h = ap (λ t. if t then n else 0) h
 count_zero l (CopyItem m f n bytes) h = ap (λ t. if t then n else 0) h
 count_zero l (FenceItem m) h = refl
 
 -- nothing is above a count
-max_zero : (a b : ℕ) → b ≡ 0 → max a b ≡ a
+pub max_zero : (a b : ℕ) → b ≡ 0 → max a b ≡ a
 max_zero a b z = omega (arith, z)
 
 -- an item of another ledger changes nothing
@@ -65,9 +56,9 @@ ledger_skip before todo settled l x other =
     (x ∷ []) todo) in
     let none : is_fence l x ≡ false = fence_false l x other in
     let fence : list_any (is_fence l) (before ++ x ∷ []) ≡ list_any (is_fence l) before =
-    any_push (is_fence l) before x ∙ ap (λ b. list_any (is_fence l) before || b) none ∙ or_none (list_any (is_fence l) before) in
+    any_push (is_fence l) before x ∙ ap (λ b. list_any (is_fence l) before || b) none ∙ or-false (list_any (is_fence l) before) in
     let done : list_any (is_fence l) (settled ++ x ∷ []) ≡ list_any (is_fence l) settled =
-    any_push (is_fence l) settled x ∙ ap (λ b. list_any (is_fence l) settled || b) none ∙ or_none (list_any (is_fence l) settled) in
+    any_push (is_fence l) settled x ∙ ap (λ b. list_any (is_fence l) settled || b) none ∙ or-false (list_any (is_fence l) settled) in
     let most : greatest l (before ++ x ∷ []) ≡ greatest l before = greatest_push l before x
     ∙ max_zero (greatest l before) (count_in l x) (count_zero l x other) in
     λ i. if all i then Some (record { fenced = fence i; fencing = not (done i) && (sym none i || list_any (is_fence l) todo); greatest = most i }) else None
@@ -97,7 +88,7 @@ ledger_push before todo settled l x is =
   where
     was : list_any (is_of l) (before ++ x ∷ todo) ≡ true
     was = list_any-append (is_of l) before (x ∷ todo) ∙ ap (λ b. list_any (is_of l) before || (b || list_any (is_of l) todo)) is
-        ∙ or_some (list_any (is_of l) before)
+        ∙ or-true (list_any (is_of l) before)
 
     there : list_any (is_of l) ((before ++ x ∷ []) ++ todo) ≡ true
     there = ap (list_any (is_of l)) (append_assoc before (x ∷ []) todo) ∙ was
@@ -180,19 +171,19 @@ entries_move b done todo (head.Fence m) bytes old new was kept l e =
     (append_assoc (durable b) done (FenceItem m ∷ []))
 
 -- an item is of the ledger of its head
-head_of_item : (h : Head) (bytes : List ℕ) (l : ℕ) → is_of l (item_of h bytes) ≡ (ledger_in h == l)
+pub head_of_item : (h : Head) (bytes : List ℕ) (l : ℕ) → is_of l (item_of h bytes) ≡ (ledger_in h == l)
 head_of_item (head.Add m f n) bytes l = refl
 head_of_item (head.Copy m f n) bytes l = refl
 head_of_item (head.Fence m) bytes l = refl
 
 -- an item is a fence where its head is
-fences : (h : Head) (bytes : List ℕ) (l : ℕ) → (ledger_in h == l) ≡ true → is_fence l (item_of h bytes) ≡ is_fence_head h
+pub fences : (h : Head) (bytes : List ℕ) (l : ℕ) → (ledger_in h == l) ≡ true → is_fence l (item_of h bytes) ≡ is_fence_head h
 fences (head.Add m f n) bytes l w = refl
 fences (head.Copy m f n) bytes l w = refl
 fences (head.Fence m) bytes l w = w
 
 -- an item carries the count of its head
-counts : (h : Head) (bytes : List ℕ) (l : ℕ) → (ledger_in h == l) ≡ true → count_in l (item_of h bytes) ≡ count_of h
+pub counts : (h : Head) (bytes : List ℕ) (l : ℕ) → (ledger_in h == l) ≡ true → count_in l (item_of h bytes) ≡ count_of h
 counts (head.Add m f n) bytes l w = ap (λ t. if t then n else 0) w
 counts (head.Copy m f n) bytes l w = ap (λ t. if t then n else 0) w
 counts (head.Fence m) bytes l w = refl
