@@ -9,7 +9,7 @@ use Rattle.dl_rules_nodes.specs.Limits.{longest_batch, most_entries, most_ledger
 use Rattle.dl_rules_nodes.specs.Items.{Item, body_of, item_bytes, IsBatch}
 use Rattle.dl_rules_nodes.specs.Counts.{entries_count, ledgers_count}
 use Rattle.dl_rules_nodes.specs.Bookies.{Bookie}
-use Rattle.dl_rules_nodes.specs.Reading.{batch_at, placed, items_in}
+use Rattle.dl_rules_nodes.specs.Reading.{batch_at, with_place, items_in}
 use Rattle.dl_rules_nodes.specs.Loads.{◌>>=◌, IsDamaged, IsCrowded, batches_at, taken_over, or_damaged, loaded_bookie}
 use Rattle.dl_rules_nodes.proofs.ItemLaws.{lengths_are_of_bytes, bodies_are_exact}
 use Rattle.dl_items.specs.Reading.{verdict, IsBody}
@@ -52,10 +52,10 @@ body_some (x ∷ xs) some = omega (arith, ap length (flat_map-cons item_bytes x 
 -- the spelling of a batch is read as it
 read_one : (gate : ℕ) (body : List ℕ) (items : List Item) → IsBatch items → body ≡ body_of items → batch_at gate body ≡ Ok items
 read_one gate body items is spelt =
-    chosen (length body == 0 || nat_lt longest_batch (length body)) (Err (gate + 9)) (placed (gate + 13 + length body) (items_in body))
+    chosen (length body == 0 || nat_lt longest_batch (length body)) (Err (gate + 9)) (with_place (gate + 13 + length body) (items_in body))
     (or_false (length body == 0) (nat_lt longest_batch (length body)) (not_none (length body) (omega (arith, ap length spelt, body_some items is.some)))
     (not_long longest_batch (length body) (omega (arith, ap length spelt, lengths_are_of_bytes.items items, is.short))))
-    ∙ ap (placed (gate + 13 + length body)) (ap items_in spelt ∙ bodies_are_exact.again items is.each)
+    ∙ ap (with_place (gate + 13 + length body)) (ap items_in spelt ∙ bodies_are_exact.again items is.each)
 
 -- Bodies are read as batches that they spell.
 pub record AllRead (gate : ℕ) (bodies : List (List ℕ)) (batches : List (List Item)) : Type 0 where
