@@ -6,14 +6,8 @@ ghost use Rattle.dl_items.specs.Heads.{item_of};
 ghost use Rattle.dl_items.specs.Frames.{HasRoom, Grows};
 
 use crate::head::{BEFORE_ENTRY, FENCE_LENGTH, Head};
+use crate::kind::{ADD, COPY, FENCE};
 use dl_record::limits::ENTRY_MAX;
-
-/// The kinds of items, as their first byte.
-const ADD: u8 = 1;
-
-const COPY: u8 = 2;
-
-const FENCE: u8 = 3;
 
 /// Adds bytes at the end of a frame that has room for them. It takes no memory.
 pub fn put_bytes(frame: &mut Vec<u8>, bytes: &[u8])

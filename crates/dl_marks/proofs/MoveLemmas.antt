@@ -34,7 +34,7 @@ or_some false = refl
 -- ---- ledgers
 
 -- the greatest count with one item more
-greatest_push : (l : ℕ) (xs : List Item) (x : Item) → greatest l (xs ++ x ∷ []) ≡ max (greatest l xs) (count_in l x)
+pub greatest_push : (l : ℕ) (xs : List Item) (x : Item) → greatest l (xs ++ x ∷ []) ≡ max (greatest l xs) (count_in l x)
 greatest_push l [] x = omega arith
 greatest_push l (y ∷ xs) x = ap (max (count_in l y)) (greatest_push l xs x) ∙ turn (count_in l y) (greatest l xs) (count_in l x)
   where
@@ -42,19 +42,19 @@ greatest_push l (y ∷ xs) x = ap (max (count_in l y)) (greatest_push l xs x) �
     turn a b c = omega arith
 
 -- an item of another ledger is no fence of this one
-fence_false : (l : ℕ) (x : Item) → is_of l x ≡ false → is_fence l x ≡ false
+pub fence_false : (l : ℕ) (x : Item) → is_of l x ≡ false → is_fence l x ≡ false
 fence_false l (AddItem m f n bytes) h = refl
 fence_false l (CopyItem m f n bytes) h = refl
 fence_false l (FenceItem m) h = h
 
 -- an item of another ledger carries no count of this one
-count_zero : (l : ℕ) (x : Item) → is_of l x ≡ false → count_in l x ≡ 0
+pub count_zero : (l : ℕ) (x : Item) → is_of l x ≡ false → count_in l x ≡ 0
 count_zero l (AddItem m f n bytes) h = ap (λ t. if t then n else 0) h
 count_zero l (CopyItem m f n bytes) h = ap (λ t. if t then n else 0) h
 count_zero l (FenceItem m) h = refl
 
 -- nothing is above a count
-max_zero : (a b : ℕ) → b ≡ 0 → max a b ≡ a
+pub max_zero : (a b : ℕ) → b ≡ 0 → max a b ≡ a
 max_zero a b z = omega (arith, z)
 
 -- an item of another ledger changes nothing
@@ -180,19 +180,19 @@ entries_move b done todo (head.Fence m) bytes old new was kept l e =
     (append_assoc (durable b) done (FenceItem m ∷ []))
 
 -- an item is of the ledger of its head
-head_of_item : (h : Head) (bytes : List ℕ) (l : ℕ) → is_of l (item_of h bytes) ≡ (ledger_in h == l)
+pub head_of_item : (h : Head) (bytes : List ℕ) (l : ℕ) → is_of l (item_of h bytes) ≡ (ledger_in h == l)
 head_of_item (head.Add m f n) bytes l = refl
 head_of_item (head.Copy m f n) bytes l = refl
 head_of_item (head.Fence m) bytes l = refl
 
 -- an item is a fence where its head is
-fences : (h : Head) (bytes : List ℕ) (l : ℕ) → (ledger_in h == l) ≡ true → is_fence l (item_of h bytes) ≡ is_fence_head h
+pub fences : (h : Head) (bytes : List ℕ) (l : ℕ) → (ledger_in h == l) ≡ true → is_fence l (item_of h bytes) ≡ is_fence_head h
 fences (head.Add m f n) bytes l w = refl
 fences (head.Copy m f n) bytes l w = refl
 fences (head.Fence m) bytes l w = w
 
 -- an item carries the count of its head
-counts : (h : Head) (bytes : List ℕ) (l : ℕ) → (ledger_in h == l) ≡ true → count_in l (item_of h bytes) ≡ count_of h
+pub counts : (h : Head) (bytes : List ℕ) (l : ℕ) → (ledger_in h == l) ≡ true → count_in l (item_of h bytes) ≡ count_of h
 counts (head.Add m f n) bytes l w = ap (λ t. if t then n else 0) w
 counts (head.Copy m f n) bytes l w = ap (λ t. if t then n else 0) w
 counts (head.Fence m) bytes l w = refl

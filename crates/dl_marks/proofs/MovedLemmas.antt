@@ -13,7 +13,7 @@ use Rattle.dl_marks.specs.Moving.{Moving}
 use Rattle.dl_marks.proofs.MoveLemmas.{or_assoc, or_nothing}
 
 -- the places of batches with one more
-from_push : (gate : ℕ) (batches : List (List Item)) (items : List Item) (l e : ℕ)
+pub from_push : (gate : ℕ) (batches : List (List Item)) (items : List Item) (l e : ℕ)
     → place_from gate (batches ++ items ∷ []) l e ≡ or_place (place_from gate batches l e) (place_in (gate + sum_by
     (λ batch. 13 + items_length batch) batches + 13) items l e)
 from_push gate [] items l e = or_nothing (place_in (gate + 13) items l e) ∙ ap (λ n. place_in n items l e) (omega arith)

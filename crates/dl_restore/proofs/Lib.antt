@@ -1,0 +1,5 @@
+pub mod CheckLemmas
+pub mod EntryLemmas
+pub mod EntryLoops
+pub mod LedgerLemmas
+pub mod RestoreLemmas

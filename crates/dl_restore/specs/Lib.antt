@@ -1,0 +1,4 @@
+pub mod Bodies
+pub mod Entries
+pub mod Ledgers
+pub mod Restoring
