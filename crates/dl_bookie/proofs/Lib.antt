@@ -17,3 +17,4 @@ pub mod LookLemmas
 pub mod FindLemmas
 pub mod WaitingLemmas
 pub mod MakeLemmas
+pub mod LoadLemmas

@@ -11,3 +11,5 @@ pub mod Committing
 pub mod Looking
 pub mod Making
 pub mod Waiting
+pub mod Faults
+pub mod Loading

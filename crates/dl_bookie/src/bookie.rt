@@ -20,6 +20,7 @@ ghost use Rattle.dl_bookie.specs.Following.{Follows};
 ghost use Rattle.dl_bookie.specs.Committing.{IsSpoilt, Commits};
 ghost use Rattle.dl_bookie.specs.Looking.{IsLook, LooksUp, CountsLook, kept_after};
 ghost use Rattle.dl_bookie.specs.Making.{IsNodeFile, Makes};
+ghost use Rattle.dl_bookie.specs.Loading.{LoadsNode};
 ghost use Rattle.dl_bookie.specs.Waiting.{item_at, JoinTo};
 
 use crate::batch::write_batch;
@@ -49,6 +50,7 @@ use dl_pool::pages_of;
 use dl_pool::parts::Parts;
 use dl_pool::pool::Pool;
 use dl_record::limits::ENTRY_MAX;
+use dl_restore::restore::restore;
 use dl_rules_nodes::limits::{LONGEST_BATCH, MOST_ENTRIES, MOST_LEDGERS, MOST_WAITING, POOL_PAGES};
 use dl_types::memory::NoMemory;
 use std::alloc::Global;
@@ -188,6 +190,39 @@ impl Bookie {
         match Journal::make(depot, file) {
             Ok(journal) => Ok(Bookie::of(journal, file, entries, ledgers, room)),
             Err(_) => Err(LoadFault::Device),
+        }
+    }
+
+    /// Loads a storage node from the journal in a file: it stands for the batches in force there. All memory of its own is taken
+    /// first: where that runs out, no call is made. It is meant for a start after a stop.
+    ///
+    /// `TooLarge` comes exactly where the file has more than 268,435,456 bytes, `Damaged` exactly where it has no more and its bytes
+    /// break the grammar: at the first part that breaks the journal's layout, anywhere in the file, or else at the first byte at which
+    /// an item, or the entry in it, breaks its own. `Crowded` comes exactly where the items have more than 65,536 entries (`Index`), or
+    /// else more than 4,096 ledgers (`Ledgers`). `Device` comes only where the file's count of faults rose, or stands at the greatest
+    /// u64; `NoMemory` where memory runs out.
+    pub fn load<D: Depot>(alloc: Global, depot: &mut D, file: FileId) -> Result<Bookie, LoadFault>
+        ensures { LoadsNode (D.view depot.old) (D.view depot.new) file result }
+    {
+        let mut entries = match EntryTable::new(alloc) {
+            Ok(entries) => entries,
+            Err(_) => return Err(LoadFault::NoMemory),
+        };
+        let mut ledgers = match LedgerTable::new(alloc) {
+            Ok(ledgers) => ledgers,
+            Err(_) => return Err(LoadFault::NoMemory),
+        };
+        let room = match Room::new(alloc) {
+            Ok(room) => room,
+            Err(_) => return Err(LoadFault::NoMemory),
+        };
+        let (journal, batches) = match Journal::load(alloc, depot, file) {
+            Ok(loaded) => loaded,
+            Err(fault) => return Err(LoadFault::of_journal(fault)),
+        };
+        match restore(&batches, &mut entries, &mut ledgers) {
+            Ok(()) => Ok(Bookie::of(journal, file, entries, ledgers, room)),
+            Err(fault) => Err(LoadFault::of_items(fault)),
         }
     }
 

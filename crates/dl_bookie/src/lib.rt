@@ -14,3 +14,5 @@ pub mod replies;
 pub mod row;
 mod settling;
 pub mod taken;
+#[cfg(test)]
+mod tests;

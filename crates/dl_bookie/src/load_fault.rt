@@ -1,7 +1,10 @@
 ghost use Rattle.std.specs.Prelude.{◌≡◌};
 ghost use Rattle.dl_bookie.specs.declared.load_fault.LoadFault.TheVariants.{NoMemory};
+ghost use Rattle.dl_bookie.specs.Faults.{fault_of_journal, fault_of_items};
 
+use dl_journal::load_fault as journal;
 use dl_msg::resource::Resource;
+use dl_restore::fault::RestoreFault;
 use dl_types::memory;
 use std::alloc::AllocError;
 use thiserror::Error;
@@ -25,6 +28,30 @@ pub enum LoadFault {
     /// Memory ran out.
     #[error("no memory")]
     NoMemory,
+}
+
+impl LoadFault {
+    /// The fault of a node whose journal was not loaded.
+    pub fn of_journal(fault: journal::LoadFault) -> LoadFault
+        ensures { result ≡ fault_of_journal fault }
+    {
+        match fault {
+            journal::LoadFault::Damaged(at) => LoadFault::Damaged(at),
+            journal::LoadFault::TooLarge(size) => LoadFault::TooLarge(size),
+            journal::LoadFault::Device => LoadFault::Device,
+            journal::LoadFault::NoMemory => LoadFault::NoMemory,
+        }
+    }
+
+    /// The fault of a node whose journal gives no tables.
+    pub fn of_items(fault: RestoreFault) -> LoadFault
+        ensures { result ≡ fault_of_items fault }
+    {
+        match fault {
+            RestoreFault::Damaged(at) => LoadFault::Damaged(at),
+            RestoreFault::Crowded(what) => LoadFault::Crowded(what),
+        }
+    }
 }
 
 impl From<AllocError> for LoadFault {
