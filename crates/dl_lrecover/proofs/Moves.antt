@@ -63,7 +63,10 @@ among_first (a ∷ answers) b = ap (λ t. a.0 == b || t) (among_first answers b)
 pub lacks_cover : (x : rule.RecoveryArgs) (m : LedgerNode) (p : search.Phase) (set greatest : ℕ)
     → PhaseStands (rule.subject_of x m) p (kept.Fencing set greatest) → LacksBy x (Some m) (rule.missing_in p) (lacks.Cover set)
 lacks_cover x m (search.Fencing answers) set greatest h =
-    record { places = λ place below. h.who.places place below ∙ sym (among_first answers (slice_index (last_piece (rule.subject_of x m).pieces).members place)) }
+    record {
+      places = λ place below. h.who.places place below
+          ∙ sym (among_first answers (slice_index (last_piece (rule.subject_of x m).pieces).members place));
+    }
 lacks_cover x m (search.Reading a b c) set greatest h = absurd h
 lacks_cover x m (search.Copying a b c) set greatest h = absurd h
 lacks_cover x m (search.Ended n) set greatest h = absurd h

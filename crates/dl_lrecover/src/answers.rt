@@ -69,7 +69,8 @@ fn after_step(
     ensures { (m : LedgerNode) (move : search.Move)
         → IsNodeAt (args_of target.now) m node.now
         → StepStands (rule.subject_of (args_of target.now) m) move step
-        → IfOk result (IsMove (args_of target.now) (rule.after_move (args_of target.now) m version move)) }
+        → IfOk result (IsMove (args_of target.now)
+        (rule.after_move (args_of target.now) m version move)) }
 {
     let node = *node;
     match step {
@@ -102,7 +103,8 @@ fn after_mark(
     version: u64,
 ) -> Result<After, NoMemory>
     ensures { (m : LedgerNode) → IsNodeAt (args_of target.now) m node.now
-        → IfOk result (IsMove (args_of target.now) (rule.after_mark (args_of target.now) m version)) }
+        → IfOk result (IsMove (args_of target.now)
+        (rule.after_mark (args_of target.now) m version)) }
 {
     let subject = subject_of(target, node);
     let step = fences(alloc, &subject)?;
@@ -117,7 +119,8 @@ fn after_node(
     version: u64,
 ) -> Result<After, NoMemory>
     ensures { (m : LedgerNode) → IsNodeAt (args_of target.now) m node.now
-        → IfOk result (IsMove (args_of target.now) (rule.after_node (args_of target.now) version m m.state)) }
+        → IfOk result (IsMove (args_of target.now)
+        (rule.after_node (args_of target.now) version m m.state)) }
 {
     let meta = node.meta;
     match meta.state {
@@ -237,7 +240,8 @@ fn after_failed_setting(
 ) -> Result<After, NoMemory>
     ensures { (m : LedgerNode) (set : Request) → IsNodeAt (args_of target.now) m node.now
         → request ≡ op_of set
-        → IfOk result (IsMove (args_of target.now) (failed_setting (args_of target.now) m set place why)) }
+        → IfOk result (IsMove (args_of target.now)
+        (failed_setting (args_of target.now) m set place why)) }
 {
     match why {
         Why::NoNode => gives_up(alloc, target, Stage::IsGone { node: Some(*node) }),
@@ -338,7 +342,8 @@ fn after_reply(
     answer: &MetaAnswer,
 ) -> Result<After, NoMemory>
     ensures { (s : rule.RecoveryStage) → StageStands (args_of target.now) s stage
-        → IfOk result (IsMove (args_of target.now) (rule.recovery_answers (args_of target.now) s answer.now)) }
+        → IfOk result (IsMove (args_of target.now)
+        (rule.recovery_answers (args_of target.now) s answer.now)) }
 {
     match stage {
         Stage::GettingNode { node } => at_getting(alloc, target, node, answer),
@@ -382,7 +387,8 @@ fn after_message(
     msg: &Msg,
 ) -> Result<After, NoMemory>
     ensures { (s : rule.RecoveryStage) → StageStands (args_of target.now) s stage
-        → IfOk result (IsMove (args_of target.now) (rule.recovery_told (args_of target.now) s bookie msg.now)) }
+        → IfOk result (IsMove (args_of target.now)
+        (rule.recovery_told (args_of target.now) s bookie msg.now)) }
 {
     match stage {
         Stage::Searching {
@@ -403,7 +409,8 @@ pub(crate) fn after_heard(
     heard: &Heard,
 ) -> Result<After, NoMemory>
     ensures { (s : rule.RecoveryStage) → StageStands (args_of target.now) s stage
-        → IfOk result (IsMove (args_of target.now) (rule.recovery_hears (args_of target.now) s heard.now)) }
+        → IfOk result (IsMove (args_of target.now)
+        (rule.recovery_hears (args_of target.now) s heard.now)) }
 {
     match heard {
         Heard::Reply(answer) => after_reply(alloc, target, stage, answer),

@@ -55,7 +55,8 @@ impl Recovery {
     ) -> Result<(Recovery, Turn<u64>), NoMemory>
         requires ledger { ledger ≤ ten_nines }
         requires conf { IsConf conf }
-        ensures turn { IfOk result (λ x. x.1 ≡ turn_of (rule.recovery_first (args tag ledger conf)).1) }
+        ensures turn { IfOk result (λ x. x.1
+            ≡ turn_of (rule.recovery_first (args tag ledger conf)).1) }
         ensures stands { IfOk result (λ x. StandsFor (new_view (args tag ledger conf)) x.0) }
     {
         let request = get_ledger(alloc, ledger)?;

@@ -98,51 +98,101 @@ fn failure(word: &str) -> MetaAnswer {
     MetaAnswer::Failed { place: 0, why }
 }
 
-/// The message of a verb with a number.
-fn message(alloc: Global, verb: &str, number: u64) -> Result<Msg, NoMemory> {
-    let (tag, ledger) = (7, LEDGER);
-    Ok(match verb {
-        "fenced" | "open" => Msg::LacIs {
-            tag,
-            ledger,
-            fenced: verb == "fenced",
-            count: number,
-        },
-        "denied" | "lacks" => Msg::NoEntry {
-            tag,
-            ledger,
-            entry: number,
-            fenced: verb == "denied",
-        },
-        "copied" => Msg::CopyOk {
-            tag,
-            ledger,
-            entry: number,
-        },
-        _ => Msg::EntryIs {
-            tag,
-            ledger,
-            entry: number,
-            bytes: Bytes::copy_from_slice(alloc, b"xyz")?,
-        },
+/// The count of a bookie.
+fn count_told(fenced: bool, count: u64) -> Msg {
+    Msg::LacIs {
+        tag: 7,
+        ledger: LEDGER,
+        fenced,
+        count,
+    }
+}
+
+/// A bookie's denial of an entry.
+fn denial(fenced: bool, entry: u64) -> Msg {
+    Msg::NoEntry {
+        tag: 7,
+        ledger: LEDGER,
+        entry,
+        fenced,
+    }
+}
+
+/// A bookie's word that it has copied an entry.
+fn copied(entry: u64) -> Msg {
+    Msg::CopyOk {
+        tag: 7,
+        ledger: LEDGER,
+        entry,
+    }
+}
+
+/// The bytes of an entry.
+fn found(alloc: Global, entry: u64) -> Result<Msg, NoMemory> {
+    Ok(Msg::EntryIs {
+        tag: 7,
+        ledger: LEDGER,
+        entry,
+        bytes: Bytes::copy_from_slice(alloc, b"xyz")?,
     })
 }
 
-/// What a line says: `node STATE`, `version`, `fails WHY`, or a message `VERB BOOKIE NUMBER`.
-fn heard(alloc: Global, line: &str) -> Result<Heard, Fail> {
-    let (verb, rest) = cut(line);
-    if verb == "node" {
-        return Ok(Heard::Reply(MetaAnswer::One(node(alloc, rest)?)));
+/// The message of a verb with a number: a count or a denial, each with the fenced bit or without it, a copy, or an entry.
+fn message(alloc: Global, verb: &str, number: u64) -> Result<Msg, NoMemory> {
+    if verb == "entry" {
+        return found(alloc, number);
+    }
+    if verb == "copied" {
+        return Ok(copied(number));
+    }
+    if verb == "denied" || verb == "lacks" {
+        return Ok(denial(verb == "denied", number));
+    }
+    Ok(count_told(verb == "fenced", number))
+}
+
+/// The reply that a line says: `node STATE`, `version`, or `fails WHY`.
+fn reply(alloc: Global, verb: &str, rest: &str) -> Result<MetaAnswer, Fail> {
+    if verb == "fails" {
+        return Ok(failure(rest));
     }
     if verb == "version" {
-        return Ok(Heard::Reply(MetaAnswer::One(OneAnswer::Version(4))));
+        return Ok(MetaAnswer::One(OneAnswer::Version(4)));
     }
-    if verb == "fails" {
-        return Ok(Heard::Reply(failure(rest)));
+    Ok(MetaAnswer::One(node(alloc, rest)?))
+}
+
+/// What a line says: a reply, or a message `VERB BOOKIE NUMBER`.
+fn heard(alloc: Global, line: &str) -> Result<Heard, Fail> {
+    let (verb, rest) = cut(line);
+    if verb == "node" || verb == "version" || verb == "fails" {
+        return Ok(Heard::Reply(reply(alloc, verb, rest)?));
     }
     let (bookie, number) = cut(rest);
     let msg = message(alloc, verb, u64::from(number_of(number)))?;
     Ok(Heard::From(number_of(bookie), msg))
+}
+
+/// Tells what is known of the ledger's node.
+fn tell_node(out: &mut String, node: Option<&LedgerMeta>) -> Result<(), NoMemory> {
+    match node {
+        Some(meta) => write!(out, "count {}", meta.count)?,
+        None => out.push_str("unknown")?,
+    }
+    Ok(())
+}
+
+/// What a recovery does at what a line says; at the line `ledger`, what it knows of the node.
+fn run(alloc: Global, recovery: &mut Recovery, line: &str) -> Result<String, Fail> {
+    let mut out = String::new(alloc);
+    if line == "ledger" {
+        tell_node(&mut out, recovery.ledger())?;
+        return Ok(out);
+    }
+    let turn = recovery.hear(&heard(alloc, line)?)?;
+    tell_turn(&mut out, &turn)?;
+    tell_outcome(&mut out, recovery.outcome())?;
+    Ok(out)
 }
 
 /// What recoveries do at what they hear, with ensembles of four, write quorums of three and ack quorums of two.
@@ -167,6 +217,7 @@ denied 0 2 => waits, lacks entry 2
 denied 1 2 => waits, lacks entry 2
 denied 4 2 => asks, lacks a reply
 version => done 2, closed at 2
+ledger => count 2
 # whoever comes second adopts what it finds
 start
 node recovering => tells 4: fence 0: fence 1: fence 2: fence, lacks a cover
@@ -177,6 +228,7 @@ node closed => done 9, closed at 9
 # the node is gone, or there is no way on
 start
 fails gone => refused, gone
+ledger => unknown
 start
 fails full => refused, lacks a reply
 "
@@ -206,12 +258,10 @@ fn each_row_of_calls(rt: HostRuntime) -> Result<(), Fail> {
         let Some((line, want)) = row.split_once(" => ") else {
             continue;
         };
-        let mut out = String::new(alloc);
-        tell_turn(&mut out, &recovery.hear(&heard(alloc, line)?)?)?;
-        tell_outcome(&mut out, recovery.outcome())?;
-        assert_eq!(rt; out.as_str(), want, "at {line}");
+        let told = run(alloc, &mut recovery, line)?;
+        assert_eq!(rt; told.as_str(), want, "at {line}");
         count = count.saturating_add(1);
     }
-    assert_eq!(rt; count, 23);
+    assert_eq!(rt; count, 25);
     Ok(())
 }

@@ -15,5 +15,6 @@ returns-then-is_about c answers tally =
     let now : IsTallyOf x all c.with-answered.result c.max.result =
     record { who = c.with-answered.ensures (has_answered answers) tally.who; greatest_one = greatest } in
     subst (λ (move : Move). IfOk c.after_answer.result (StepStands x move))
-    (fenced_answer x answers c.args.bookie at.tag at.ledger at.count at.fenced c.args.msg.now at.is c.if-fenced.true (sym c.is_about.ensures ∙ c.if-is_about.true))
+    (fenced_answer x answers c.args.bookie at.tag at.ledger at.count at.fenced c.args.msg.now at.is c.if-fenced.true
+    (sym c.is_about.ensures ∙ c.if-is_about.true))
     (c.after_answer.ensures all now)
