@@ -5,3 +5,5 @@
 pub mod places;
 pub mod subject;
 pub mod telling;
+#[cfg(test)]
+mod tests;
