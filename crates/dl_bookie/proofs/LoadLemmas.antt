@@ -44,7 +44,8 @@ kept_of j es ls = record { journal = j; pool = empty_pool pool_pages; entries = 
 -- ---- the file
 
 -- batches in a row are those of the items that they spell
-numbered_is : (first : ℕ) (batches : List Batch) (items : List (List Item)) → Runs first batches → AllSpell (bodies_of batches) items → numbered first items ≡ batches
+numbered_is : (first : ℕ) (batches : List Batch) (items : List (List Item))
+    → Runs first batches → AllSpell (bodies_of batches) items → numbered first items ≡ batches
 numbered_is first [] [] runs s = refl
 numbered_is first [] (x ∷ xs) runs s = absurd s
 numbered_is first (b ∷ bs) [] runs s = absurd s
@@ -65,7 +66,14 @@ spelled_length [] [] s = refl
 spelled_length [] (x ∷ xs) s = absurd s
 spelled_length (b ∷ bs) [] s = absurd s
 spelled_length (b ∷ bs) (x ∷ xs) s =
-    omega (arith, spell_length b bs, ap length s.0.spelt, lengths_are_of_bytes.items x, spelled_length bs xs s.1, sum_by-cons (λ batch. 13 + items_length batch) x xs)
+    omega (
+      arith,
+      spell_length b bs,
+      ap length s.0.spelt,
+      lengths_are_of_bytes.items x,
+      spelled_length bs xs s.1,
+      sum_by-cons (λ batch. 13 + items_length batch) x xs,
+    )
 
 -- ---- whole entries
 
@@ -166,9 +174,11 @@ failure fault = Err fault
 damaged_same : (m n : ℕ) → failure (node.Damaged m) ≡ failure (node.Damaged n) → m ≡ n
 damaged_same m n e = cc
 
+-- two failures for want of places are of one table
 crowded_same : (m n : Resource) → failure (node.Crowded m) ≡ failure (node.Crowded n) → m ≡ n
 crowded_same m n e = cc
 
+-- two failures by size are of one size
 large_same : (m n : ℕ) → failure (node.TooLarge m) ≡ failure (node.TooLarge n) → m ≡ n
 large_same m n e = cc
 
@@ -243,7 +253,8 @@ no_tables old new file j v (items.Damaged at) l stops = record {
   images = l.reads.images;
   node = tt;
   too_large = λ n e. absurd cc;
-  damaged = λ n e was is. inr (subst (λ (m : ℕ). StopsItems was (IsDamaged m)) (damaged_same at n e) (stops_items old new file j v (IsDamaged at) was l stops is));
+  damaged = λ n e was is. inr (subst (λ (m : ℕ). StopsItems was (IsDamaged m)) (damaged_same at n e)
+      (stops_items old new file j v (IsDamaged at) was l stops is));
   crowded = λ what e. absurd cc;
   counts = l.reads.counts;
   calls = record { told = λ calls is. tt; fronts = l.reads.calls.fronts; unset = l.reads.calls.unset };
