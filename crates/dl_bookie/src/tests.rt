@@ -88,6 +88,14 @@ fn finds(alloc: Global, depot: &mut MemDepot, node: &mut Bookie) -> bool {
     }
 }
 
+/// Whether a node that is loaded from the file has the first entry of ledger 1.
+fn holds_after_a_load(alloc: Global, depot: &mut MemDepot) -> bool {
+    match Bookie::load(alloc, depot, FileId::new(1)) {
+        Ok(node) => node.holds(1, 0),
+        Err(_) => false,
+    }
+}
+
 #[test]
 fn an_entry_is_stored_and_found(rt: HostRuntime) -> Result<(), Fail> {
     let alloc = rt.alloc();
@@ -98,5 +106,6 @@ fn an_entry_is_stored_and_found(rt: HostRuntime) -> Result<(), Fail> {
     assert!(rt; waits(&mut node, &msg));
     assert!(rt; adds(&mut depot, &mut node, &mut replies));
     assert!(rt; finds(alloc, &mut depot, &mut node));
+    assert!(rt; holds_after_a_load(alloc, &mut depot));
     Ok(())
 }
