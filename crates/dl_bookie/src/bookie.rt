@@ -378,7 +378,8 @@ impl Bookie {
     #[tactic(auto, unfolding(dl_rules_nodes::specs::Bookies::table_row))]
     pub fn take(&mut self, client: u16, session: u64, msg: &Msg) -> Taken
         requires { IsWhole msg.now }
-        ensures taken { (b : Node) → StandsFor b self.old → result ≡ outcome_of (table_row b msg.now) }
+        ensures taken { (b : Node) → StandsFor b self.old
+            → result ≡ outcome_of (table_row b msg.now) }
         ensures stands { (b : Node) → StandsFor b self.old
             → StandsFor (after b client session (table_row b msg.now)) self.new }
         ensures journal { self.new.journal ≡ self.old.journal }

@@ -56,7 +56,8 @@ impl EntryTable {
 
     /// Keeps these marks of an entry.
     pub fn put(&mut self, key: EntryKey, marks: EntryMarks)
-        requires { (length self.old < MOST_ENTRIES) ⊎ IsSome (marks_at self.old key.ledger key.entry) }
+        requires { (length self.old < MOST_ENTRIES)
+            ⊎ IsSome (marks_at self.old key.ledger key.entry) }
         ensures each { (l e : ℕ) → marks_at self.new l e
             ≡ (if key.ledger == l && key.entry == e then Some marks else marks_at self.old l e) }
         ensures count { length self.new ≡ length self.old
