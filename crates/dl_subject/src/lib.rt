@@ -5,5 +5,3 @@
 pub mod places;
 pub mod subject;
 pub mod telling;
-#[cfg(test)]
-mod tests;
