@@ -9,3 +9,4 @@ pub mod Entries
 pub mod WalkLaws
 pub mod BuildingLaws
 pub mod CheckLaws
+mod SharedLaws

@@ -23,6 +23,11 @@ rows_from slot (r ∷ rs) = rows_of slot (txid_of r) (payloads_of r) ++ rows_fro
 abbrev pub user_rows : List Stored → List RowOf
 user_rows parts = rows_from 0 parts
 
+-- the user rows of what is read as an entry: none where it has a flaw
+abbrev pub rows_read : Result (List Stored) EntryFlaw → List RowOf
+rows_read (Ok parts) = user_rows parts
+rows_read (Err flaw) = []
+
 -- how many user rows there are
 abbrev pub row_count : List Stored → ℕ
 row_count parts = length (user_rows parts)

@@ -15,6 +15,8 @@ pub mod laws;
 pub mod limits;
 pub mod records;
 mod sets;
+pub mod shared_row;
+mod step;
 pub mod stored;
 #[cfg(test)]
 mod tests;
