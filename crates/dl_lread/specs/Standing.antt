@@ -36,10 +36,14 @@ StageStands x (Fetching entry) (kept.Fetching e) = e ≡ entry
 StageStands x (Fetched bytes) (kept.Fetched b) = b ≡ bytes
 StageStands x _ _ = ⊥
 
--- each thing that a reader keeps is what the view says
-pub record StandsFor (v : ReaderView) (f : ReaderFacts) : Type 0 where
-  pub subject : f.subject ≡ v.subject
-  pub stage : StageStands v.subject (stage_in v) f.stage
+-- a reader of this subject stands at a stage of the rule: each thing that it keeps is what the stage says
+pub record StandsAt (x : Subject) (s : ReaderStage) (f : ReaderFacts) : Type 0 where
+  pub subject : f.subject ≡ x
+  pub stage : StageStands x s f.stage
+
+-- a reader stands at the stage of a view
+abbrev pub StandsFor : ReaderView → ReaderFacts → Type 0
+StandsFor v f = StandsAt v.subject (stage_in v) f
 
 -- another stage, or else this one
 abbrev pub stage_or : Stage → Option Stage → Stage
@@ -58,12 +62,20 @@ got_in (Counted count) = got.Lac count
 got_in (Fetched bytes) = got.Entry bytes
 got_in stage = got.NotYet
 
--- a reader asks by what its view says, and stands then for the view with the call
-pub record IsAsking (v : ReaderView) (call : ReaderCall) (letters told : List Told) (f : ReaderFacts) : Type 0 where
+-- a reader tells these messages, and stands then at a stage
+pub record AsksAt (x : Subject) (next : ReaderStage) (letters told : List Told) (f : ReaderFacts) : Type 0 where
   pub letters_told : told ≡ letters
-  pub stands : StandsFor (with_call v call) f
+  pub stands : StandsAt x next f
+
+-- a reader has got what a stage says, and stands then at it
+pub record AnswersAt (x : Subject) (next : ReaderStage) (g : Got) (f : ReaderFacts) : Type 0 where
+  pub got : g ≡ got_in next
+  pub stands : StandsAt x next f
+
+-- a reader asks by what its view says, and stands then for the view with the call
+abbrev pub IsAsking : ReaderView → ReaderCall → (letters told : List Told) → ReaderFacts → Type 0
+IsAsking v call letters told f = AsksAt v.subject (stage_in (with_call v call)) letters told f
 
 -- a reader answers by what its view says with the call, and stands then for that
-pub record IsHearing (v : ReaderView) (call : ReaderCall) (g : Got) (f : ReaderFacts) : Type 0 where
-  pub got : g ≡ got_in (stage_in (with_call v call))
-  pub stands : StandsFor (with_call v call) f
+abbrev pub IsHearing : ReaderView → ReaderCall → Got → ReaderFacts → Type 0
+IsHearing v call g f = AnswersAt v.subject (stage_in (with_call v call)) g f

@@ -1,8 +1,11 @@
-ghost use Rattle.std.specs.Prelude.{◌≡◌, IfOk, OnErr};
+ghost use Rattle.std.specs.Prelude.{◌≡◌, [], IfOk, OnErr};
 ghost use Rattle.dl_quorum.specs.Sizes.{sizes_of};
 ghost use Rattle.dl_quorum.specs.Pieces.{one_piece, ensemble_members};
+ghost use Rattle.dl_rules_ledger.specs.Subjects as about;
 ghost use Rattle.dl_rules_ledger.specs.Readers.{AsksCount, Asks, Hears, asks_count, asks_entry};
+ghost use Rattle.dl_rules_ledger.specs.Readers.{ReaderStage, Idle, Counting, Fetching, hears};
 ghost use Rattle.dl_subject.specs.Sets.{subject};
+ghost use Rattle.dl_lread.specs.Standing.{StandsAt, AsksAt, AnswersAt};
 ghost use Rattle.dl_lread.specs.Standing.{ReaderView, StandsFor, IsAsking, IsHearing, new_view};
 
 use crate::answers::{after_msg, got_at};
@@ -14,7 +17,7 @@ use dl_subject::subject::Subject;
 use dl_types::ensemble::Ensemble;
 use dl_types::memory::NoMemory;
 use dl_types::quorum::Quorum;
-use std::alloc::Global;
+use std::alloc::{AllocError, Global};
 use std::marker::Model;
 
 /// The reader of a ledger. It keeps the set of places that have answered, and the greatest count that they told.
@@ -33,6 +36,21 @@ impl Model for LedgerReader {
     ghost view = { λ r. record { subject = r.subject; stage = r.stage } };
 }
 
+/// A clone reads on by itself: a task lets one hear, and keeps it once nothing else can fail.
+impl Clone for LedgerReader {
+    ghost is_clone = { λ r copy. copy ≡ r };
+
+    fn clone(&self) -> Result<Self, AllocError> {
+        let subject = self.subject.clone()?;
+        let stage = self.stage.clone()?;
+        Ok(LedgerReader {
+            alloc: self.alloc,
+            subject,
+            stage,
+        })
+    }
+}
+
 impl LedgerReader {
     /// A reader of this ledger that was asked for nothing; its messages have this tag. The ensemble has as many bookies as the
     /// quorum says.
@@ -45,7 +63,9 @@ impl LedgerReader {
         ensemble: Ensemble,
     ) -> Result<LedgerReader, NoMemory>
         requires { ensemble.e ≡ q.e }
-        ensures { let pieces = one_piece (sizes_of q) (ensemble_members ensemble) in
+        ensures stage { let pieces = one_piece (sizes_of q) (ensemble_members ensemble) in
+            IfOk result (StandsAt (subject tag ledger pieces) Idle) }
+        ensures view { let pieces = one_piece (sizes_of q) (ensemble_members ensemble) in
             IfOk result (StandsFor (new_view (subject tag ledger pieces))) }
     {
         Ok(LedgerReader {
@@ -59,7 +79,9 @@ impl LedgerReader {
     /// Want of memory leaves the reader as it is.
     #[tactic(auto, unfolding(dl_rules_ledger::specs::Readers::stage_of))]
     pub fn ask_lac(&mut self) -> Result<Letters, NoMemory>
-        ensures asks { IfOk result (λ told. (v : ReaderView) → StandsFor v self.old
+        ensures goes { IfOk result (λ told. (x : about.Subject) (s : ReaderStage)
+            → StandsAt x s self.old → AsksAt x (Counting []) (asks_count x) told self.new) }
+        ensures view { IfOk result (λ told. (v : ReaderView) → StandsFor v self.old
             → IsAsking v AsksCount (asks_count v.subject) told self.new) }
         ensures kept { OnErr result (self.new ≡ self.old) }
     {
@@ -80,7 +102,10 @@ impl LedgerReader {
     /// Want of memory leaves the reader as it is.
     #[tactic(auto, unfolding(dl_rules_ledger::specs::Readers::stage_of))]
     pub fn ask(&mut self, entry: u64) -> Result<Letters, NoMemory>
-        ensures asks { IfOk result (λ told. (v : ReaderView) → StandsFor v self.old
+        ensures goes { IfOk result (λ told. (x : about.Subject) (s : ReaderStage)
+            → StandsAt x s self.old
+            → AsksAt x (Fetching entry) (asks_entry x entry) told self.new) }
+        ensures view { IfOk result (λ told. (v : ReaderView) → StandsFor v self.old
             → IsAsking v (Asks entry) (asks_entry v.subject entry) told self.new) }
         ensures kept { OnErr result (self.new ≡ self.old) }
     {
@@ -99,7 +124,9 @@ impl LedgerReader {
     /// nothing. Messages that answer nothing that was asked change nothing. Want of memory leaves the reader as it is.
     #[tactic(auto, unfolding(dl_rules_ledger::specs::Readers::stage_of))]
     pub fn hear(&mut self, bookie: u8, msg: &Msg) -> Result<Got, NoMemory>
-        ensures hears { IfOk result (λ got. (v : ReaderView) → StandsFor v self.old
+        ensures goes { IfOk result (λ got. (x : about.Subject) (s : ReaderStage)
+            → StandsAt x s self.old → AnswersAt x (hears x s bookie msg.now) got self.new) }
+        ensures view { IfOk result (λ got. (v : ReaderView) → StandsFor v self.old
             → IsHearing v (Hears bookie msg.now) got self.new) }
         ensures kept { OnErr result (self.new ≡ self.old) }
     {

@@ -1,5 +1,8 @@
+ghost use Rattle.std.specs.Prelude.{◌≡◌};
+
 use dl_quorum::place_set::PlaceSet;
 use dl_types::entry_bytes::EntryBytes;
+use std::alloc::AllocError;
 
 /// What a reader waits for, or what it has got.
 #[derive(Debug, Drop)]
@@ -14,4 +17,24 @@ pub(crate) enum Stage {
     Fetching { entry: u64 },
     /// It has the bytes of the entry.
     Fetched { bytes: EntryBytes },
+}
+
+impl Clone for Stage {
+    ghost is_clone = { λ s copy. copy ≡ s };
+
+    fn clone(&self) -> Result<Self, AllocError> {
+        match self {
+            Stage::Idle => Ok(Stage::Idle),
+            Stage::Counting { answered, greatest } => Ok(Stage::Counting {
+                answered: *answered,
+                greatest: *greatest,
+            }),
+            Stage::Counted { count } => Ok(Stage::Counted { count: *count }),
+            Stage::Fetching { entry } => Ok(Stage::Fetching { entry: *entry }),
+            Stage::Fetched { bytes } => {
+                let bytes = bytes.clone()?;
+                Ok(Stage::Fetched { bytes })
+            }
+        }
+    }
 }

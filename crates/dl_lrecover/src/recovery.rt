@@ -23,7 +23,7 @@ use dl_msg::heard::Heard;
 use dl_msg::turn::Turn;
 use dl_requests::ledger_nodes::get_ledger;
 use dl_types::memory::NoMemory;
-use std::alloc::Global;
+use std::alloc::{AllocError, Global};
 use std::marker::Model;
 
 /// The recovery of a ledger. In each phase it keeps the set of places that were heard.
@@ -41,6 +41,19 @@ impl Model for Recovery {
     ghost Value = { RecoveryFacts };
 
     ghost view = { λ r. record { args = args_of r.target; stage = r.stage } };
+}
+
+/// A clone goes on by itself: a task lets one hear, and keeps it once nothing else can fail.
+impl Clone for Recovery {
+    ghost is_clone = { λ r copy. copy ≡ r };
+
+    fn clone(&self) -> Result<Self, AllocError> {
+        Ok(Recovery {
+            alloc: self.alloc,
+            target: self.target,
+            stage: self.stage,
+        })
+    }
 }
 
 impl Recovery {

@@ -16,7 +16,7 @@ use dl_quorum::placement::{confirmed, covers, denied};
 use dl_types::ensemble::Ensemble;
 use dl_types::memory::NoMemory;
 use dl_types::quorum::Quorum;
-use std::alloc::Global;
+use std::alloc::{AllocError, Global};
 use std::marker::Model;
 
 /// What a task asks bookies about: a ledger on its ensemble, under the tag of the task's messages, which answers repeat. Sets of
@@ -42,6 +42,19 @@ impl Model for Subject {
         (one_piece (sizes_of s.q) (ensemble_members s.ensemble)) };
 
     ghost invariant = { λ s. s.ensemble.e ≡ s.q.e };
+}
+
+impl Clone for Subject {
+    ghost is_clone = { λ s copy. copy ≡ s };
+
+    fn clone(&self) -> Result<Self, AllocError> {
+        Ok(Subject {
+            tag: self.tag,
+            ledger: self.ledger,
+            q: self.q,
+            ensemble: self.ensemble,
+        })
+    }
 }
 
 impl Subject {
