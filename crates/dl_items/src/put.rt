@@ -51,7 +51,8 @@ fn put_u64(frame: &mut Vec<u8>, number: u64)
 fn put_entry(frame: &mut Vec<u8>, kind: u8, ledger: u64, entry: u64, count: u64, bytes: &[u8])
     requires short { length bytes.now ≤ ENTRY_MAX }
     requires room { HasRoom frame.old (BEFORE_ENTRY + length bytes.now) }
-    ensures { Grows frame.old frame.new (field w8 kind ++ entry_fields ledger entry count bytes.now) }
+    ensures { Grows frame.old frame.new
+        (field w8 kind ++ entry_fields ledger entry count bytes.now) }
 {
     put_u8(frame, kind);
     put_u64(frame, ledger);

@@ -21,17 +21,25 @@ live_code = code_by (ℕ × ℕ) (coded× coded_ℕ coded_ℕ) (λ x. (x.session
 abbrev pub sessions_code : Coded Known
 sessions_code = code_by (ℕ × List Live) (coded× coded_ℕ (coded_list live_code)) (λ s. (s.last, s.live)) (λ p. record { last = p.0; live = p.1 }) (λ _. refl)
 
--- and what a journal keeps
+-- what a journal keeps, of these parts
+abbrev pub journal_with : ℕ × (ℕ × (ℕ × Bool)) → JournalState
+journal_with (file, gate, next, failed) = record { file = file; gate = gate; next = next; failed = failed }
+
+-- what a journal keeps is stored as the tuple of its parts
 abbrev pub journal_code : Coded JournalState
 journal_code =
     code_by (ℕ × (ℕ × (ℕ × Bool))) (coded× coded_ℕ (coded× coded_ℕ (coded× coded_ℕ coded_bool)))
-    (λ j. (j.file, (j.gate, (j.next, j.failed)))) (λ p. record { file = p.0; gate = p.1.0; next = p.1.1.0; failed = p.1.1.1 }) (λ _. refl)
+    (λ j. (j.file, (j.gate, (j.next, j.failed)))) journal_with (λ _. refl)
+
+-- the store of these parts
+abbrev pub state_with : Nodes × (Known × JournalState) → MetaState
+state_with (tree, sessions, journal) = record { tree = tree; sessions = sessions; journal = journal }
 
 -- a store is stored as the tuple of its parts
 abbrev pub state_code : Coded MetaState
 state_code =
     code_by (Nodes × (Known × JournalState)) (coded× nodes_code (coded× sessions_code journal_code))
-    (λ s. (s.tree, (s.sessions, s.journal))) (λ p. record { tree = p.0; sessions = p.1.0; journal = p.1.1 }) (λ _. refl)
+    (λ s. (s.tree, (s.sessions, s.journal))) state_with (λ _. refl)
 
 -- its tree and its sessions, as the definitions see them
 abbrev pub meta_in : MetaState → Meta

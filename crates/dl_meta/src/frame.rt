@@ -91,7 +91,8 @@ pub(crate) fn frame_of_ask(
     op: &MetaOp,
 ) -> Result<Vec<u8>, NoMemory>
     requires { IsRequest op.now }
-    ensures { IfOk result (λ frame. frame.items ≡ framed (meta_item_bytes (Ask session number op.now))) }
+    ensures { IfOk result (λ frame. frame.items
+        ≡ framed (meta_item_bytes (Ask session number op.now))) }
 {
     let mut frame = frame_of_kind(alloc, ASK)?;
     put_u64(alloc, &mut frame, session)?;

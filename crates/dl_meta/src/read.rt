@@ -44,7 +44,8 @@ fn kind_of(is_first: bool, code: u8) -> Option<Kind>
 
 /// The kind at the front, and the bytes behind it. One that may not come is bad.
 fn read_kind(is_first: bool, bytes: &[u8]) -> Result<(Kind, &[u8]), Fault>
-    ensures { Reads (λ x. (kind_for x.0, x.1.now)) result (code_from meta_code (kinds_due is_first) bytes.now) }
+    ensures { Reads (λ x. (kind_for x.0, x.1.now)) result
+        (code_from meta_code (kinds_due is_first) bytes.now) }
 {
     let (code, rest) = read_u8(bytes)?;
     match kind_of(is_first, code) {
@@ -155,7 +156,8 @@ fn read_rest<'a>(
     kind: Kind,
     bytes: &'a [u8],
 ) -> Result<(Change, &'a [u8]), Stop>
-    ensures { Gives (λ x. (item_for x.0, x.1.now)) result (meta_rest_from sessions.now (kind_for kind) bytes.now) }
+    ensures { Gives (λ x. (item_for x.0, x.1.now)) result
+        (meta_rest_from sessions.now (kind_for kind) bytes.now) }
 {
     match kind {
         Kind::Conf => {
@@ -193,7 +195,8 @@ fn read_item<'a>(
     sessions: &Sessions,
     bytes: &'a [u8],
 ) -> Result<(Change, &'a [u8]), Stop>
-    ensures { Gives (λ x. (item_for x.0, x.1.now)) result (meta_item_from is_first sessions.now bytes.now) }
+    ensures { Gives (λ x. (item_for x.0, x.1.now)) result
+        (meta_item_from is_first sessions.now bytes.now) }
 {
     let (kind, rest) = read_kind(is_first, bytes)?;
     read_rest(alloc, sessions, kind, rest)

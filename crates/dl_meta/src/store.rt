@@ -102,7 +102,8 @@ impl MetaStore {
         requires works { self.old.journal.failed ≡ false }
         requires last { self.old.sessions.last < greatest_session }
         requires room { 9 ≤ spare_of self.old.journal }
-        ensures { Stores (D.view depot.old) (D.view depot.new) (depot.new ≡ depot.old) self.old self.new
+        ensures { Stores (D.view depot.old) (D.view depot.new) (depot.new ≡ depot.old)
+            self.old self.new
             (Connect (self.old.sessions.last + 1)) (self.old.sessions.last + 1) result }
     {
         let session = self.sessions.last() + 1;
@@ -119,7 +120,8 @@ impl MetaStore {
         requires stands { Stands (D.view depot.old) self.old.journal }
         requires works { self.old.journal.failed ≡ false }
         requires room { 9 ≤ spare_of self.old.journal }
-        ensures { Stores (D.view depot.old) (D.view depot.new) (depot.new ≡ depot.old) self.old self.new
+        ensures { Stores (D.view depot.old) (D.view depot.new) (depot.new ≡ depot.old)
+            self.old self.new
             (Expire session) true result }
     {
         let mut frame = frame_of_expire(self.alloc, session)?;
@@ -144,7 +146,8 @@ impl MetaStore {
         requires runs { admission (number_in self.old.sessions.live session) number ≡ admit.Run }
         requires valid { IsRequest op.now }
         requires room { meta_item_length (Ask session number op.now) ≤ spare_of self.old.journal }
-        ensures { Stores (D.view depot.old) (D.view depot.new) (depot.new ≡ depot.old) self.old self.new
+        ensures { Stores (D.view depot.old) (D.view depot.new) (depot.new ≡ depot.old)
+            self.old self.new
             (Ask session number op.now) (answer_of (meta_in self.old) session op.now) result }
     {
         let mut frame = frame_of_ask(self.alloc, session, number, op)?;
@@ -165,7 +168,8 @@ impl MetaStore {
 
     /// Whether one session more can be given.
     fn can_connect(&self) -> bool
-        ensures { result ≡ (nat_lt self.now.sessions.last greatest_session && nat_le 9 (spare_of self.now.journal)) }
+        ensures { result ≡ (nat_lt self.now.sessions.last greatest_session
+            && nat_le 9 (spare_of self.now.journal)) }
     {
         let is_below = self.sessions.last() < u64::MAX;
         is_below && self.has_room(SESSION_ITEM)
@@ -191,7 +195,8 @@ impl MetaStore {
         requires { Stands (D.view depot.old) self.old.journal }
         ensures works { Works (D.view depot.old) (D.view depot.new) (depot.new ≡ depot.old) self.old
             self.new result }
-        ensures takes { (n : MetaNode) → StandsFor n self.old → Takes (D.view depot.old) (D.view depot.new)
+        ensures takes { (n : MetaNode) → StandsFor n self.old
+            → Takes (D.view depot.old) (D.view depot.new)
             (depot.new ≡ depot.old) n self.old self.new (connect_turn n) result }
     {
         if self.failed {
@@ -209,7 +214,8 @@ impl MetaStore {
         requires { Stands (D.view depot.old) self.old.journal }
         ensures works { Works (D.view depot.old) (D.view depot.new) (depot.new ≡ depot.old) self.old
             self.new result }
-        ensures takes { (n : MetaNode) → StandsFor n self.old → Takes (D.view depot.old) (D.view depot.new)
+        ensures takes { (n : MetaNode) → StandsFor n self.old
+            → Takes (D.view depot.old) (D.view depot.new)
             (depot.new ≡ depot.old) n self.old self.new (expire_turn n session) result }
     {
         if self.failed {
@@ -240,7 +246,8 @@ impl MetaStore {
         requires conf { IsAllowed (allows AllButConf) op.now }
         ensures works { Works (D.view depot.old) (D.view depot.new) (depot.new ≡ depot.old) self.old
             self.new result }
-        ensures takes { (n : MetaNode) → StandsFor n self.old → Takes (D.view depot.old) (D.view depot.new)
+        ensures takes { (n : MetaNode) → StandsFor n self.old
+            → Takes (D.view depot.old) (D.view depot.new)
             (depot.new ≡ depot.old) n self.old self.new (serve_turn n session number op.now) result }
     {
         if self.failed {
@@ -265,8 +272,9 @@ impl MetaStore {
         requires works { self.old.journal.failed ≡ false }
         requires runs { admission (number_in self.old.sessions.live session) number ≡ admit.Run }
         requires valid { IsRequest op.now }
-        ensures { Runs (D.view depot.old) (D.view depot.new) (depot.new ≡ depot.old) self.old self.new
-            (Ask session number op.now) (Some (reply.Answer (answer_of (meta_in self.old) session op.now))) result }
+        ensures { Runs (D.view depot.old) (D.view depot.new) (depot.new ≡ depot.old)
+            self.old self.new (Ask session number op.now)
+            (Some (reply.Answer (answer_of (meta_in self.old) session op.now))) result }
     {
         if !self.has_room(size_of_ask(op)) {
             return Err(MetaFault::Full);
@@ -296,7 +304,8 @@ impl MetaStore {
     /// The last session given, 0 where none was.
     pub fn last(&self) -> u64
         ensures value { result ≡ self.now.sessions.last }
-        ensures node { (n : MetaNode) → StandsFor n self.now → result ≡ (meta_of n.items).sessions.last }
+        ensures node { (n : MetaNode) → StandsFor n self.now
+            → result ≡ (meta_of n.items).sessions.last }
     {
         self.sessions.last()
     }

@@ -106,7 +106,8 @@ fn put_joined_fields(
     client: ClientId,
     session: SessionId,
 ) -> Result<(), NoMemory>
-    ensures { OnOk result (out.new.items ≡ out.old.items ++ print_fields (Event.Joined client session)) }
+    ensures { OnOk result (out.new.items ≡ out.old.items
+        ++ print_fields (Event.Joined client session)) }
 {
     put_client(out, client)?;
     put_number(out, b'\n', session.number())
@@ -119,7 +120,8 @@ fn put_writer_fields(
     stream: &Name,
     segment: u64,
 ) -> Result<(), NoMemory>
-    ensures { OnOk result (out.new.items ≡ out.old.items ++ print_fields (Event.Writer client stream.now segment)) }
+    ensures { OnOk result (out.new.items ≡ out.old.items
+        ++ print_fields (Event.Writer client stream.now segment)) }
 {
     put_order(out, client, stream, b' ')?;
     put_number(out, b'\n', segment)
@@ -132,7 +134,8 @@ fn put_sent_fields(
     segment: u64,
     entry: u64,
 ) -> Result<(), NoMemory>
-    ensures { OnOk result (out.new.items ≡ out.old.items ++ print_fields (Event.Sent client segment entry)) }
+    ensures { OnOk result (out.new.items ≡ out.old.items
+        ++ print_fields (Event.Sent client segment entry)) }
 {
     put_client(out, client)?;
     put_number(out, b':', segment)?;
@@ -359,7 +362,8 @@ pub fn put_joined(
     client: ClientId,
     session: SessionId,
 ) -> Result<(), NoMemory>
-    ensures { OnOk result (out.new.items ≡ out.old.items ++ print_event line (Event.Joined client session)) }
+    ensures { OnOk result (out.new.items ≡ out.old.items
+        ++ print_event line (Event.Joined client session)) }
 {
     put_verb(out, line, Verb::Joined)?;
     put_joined_fields(out, client, session)
@@ -373,7 +377,8 @@ pub fn put_writer(
     stream: &Name,
     segment: u64,
 ) -> Result<(), NoMemory>
-    ensures { OnOk result (out.new.items ≡ out.old.items ++ print_event line (Event.Writer client stream.now segment)) }
+    ensures { OnOk result (out.new.items ≡ out.old.items
+        ++ print_event line (Event.Writer client stream.now segment)) }
 {
     put_verb(out, line, Verb::Writer)?;
     put_writer_fields(out, client, stream, segment)
@@ -387,7 +392,8 @@ pub fn put_sent(
     segment: u64,
     entry: u64,
 ) -> Result<(), NoMemory>
-    ensures { OnOk result (out.new.items ≡ out.old.items ++ print_event line (Event.Sent client segment entry)) }
+    ensures { OnOk result (out.new.items ≡ out.old.items
+        ++ print_event line (Event.Sent client segment entry)) }
 {
     put_verb(out, line, Verb::Sent)?;
     put_sent_fields(out, client, segment, entry)

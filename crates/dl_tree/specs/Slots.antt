@@ -36,11 +36,15 @@ abbrev pub Covers : List (List ℕ × Option Node) → List Change → Type 0
 Covers es [] = Unit {0}
 Covers es (c ∷ cs) = has_slot es c.path × Covers es cs
 
+-- the node of these fields
+abbrev pub node_with : List ℕ × (ℕ × (Option ℕ × ℕ)) → Node
+node_with (bytes, version, owner, counter) = record { bytes = bytes; version = version; owner = owner; counter = counter }
+
 -- a node is stored as the tuple of its fields
 abbrev pub node_code : Coded Node
 node_code =
     code_by (List ℕ × (ℕ × (Option ℕ × ℕ))) (coded× (coded_list coded_ℕ) (coded× coded_ℕ (coded× (coded_option coded_ℕ) coded_ℕ)))
-    (λ n. (n.bytes, (n.version, (n.owner, n.counter)))) (λ p. record { bytes = p.0; version = p.1.0; owner = p.1.1.0; counter = p.1.1.1 }) (λ _. refl)
+    (λ n. (n.bytes, (n.version, (n.owner, n.counter)))) node_with (λ _. refl)
 
 -- a tree is stored as its entries
 abbrev pub nodes_code : Coded Nodes
