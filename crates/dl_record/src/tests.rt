@@ -5,8 +5,10 @@ use crate::check::check_entry;
 use crate::decode::decode_entry;
 use crate::encode::{control, encode_entry, set_size};
 use crate::entry_fault::EntryFault;
+use crate::shared_row::shared_rows;
 use crate::stored::Stored;
 use crate::walk::RowWalk;
+use dl_types::entry_bytes::EntryBytes;
 use dl_types::payload::Payload;
 use dl_types::txid::TxId;
 use spoilt::{ENTRY, added, changed, cut_off, cut_short};
@@ -183,5 +185,10 @@ fn walks_over_the_rows(rt: HostRuntime) -> Result<(), Fail> {
         [0, 5, 104, 105, 1, 5, 99, 2, 5, 100, 101, 3, 6, 120].as_slice()
     );
     assert_eq!(rt; RowWalk::new(&ENTRY).count(), 4);
+    let entry = EntryBytes::new(rt.alloc(), &ENTRY)?;
+    match shared_rows(rt.alloc(), &entry)?.as_slice() {
+        [_, _, third, _] => assert_eq!(rt; third.payload.as_slice(), [100, 101].as_slice()),
+        _ => assert!(rt; false),
+    }
     Ok(())
 }

@@ -1,12 +1,13 @@
-ghost use Rattle.std.specs.Prelude.{◌≡◌, List};
+ghost use Rattle.std.specs.Prelude.{◌≡◌, ◌≤◌, List, length};
 ghost use Rattle.std.specs.Iterator.{YieldsFirstBy, item_count};
 ghost use Rattle.dl_record.specs.declared.stored.Stored.{Stored};
 ghost use Rattle.dl_record.specs.Grammar.{IsEntry, IsEntryBytes, entry_bytes};
 ghost use Rattle.dl_record.specs.Rows.{user_rows};
 ghost use Rattle.dl_record.specs.RowViews.{row_view};
+ghost use Rattle.dl_record.specs.Walks.{span_row};
 
 use crate::cursor::Cursor;
-use crate::step::{first_cursor, step_of};
+use crate::step::{RowSpan, first_cursor, step_of};
 use crate::user_row::UserRow;
 use std::marker::Model;
 
@@ -45,6 +46,19 @@ impl<'a> RowWalk<'a> {
     }
 }
 
+/// The row at a span of the bytes of an entry.
+fn row_at<'a>(bytes: &'a [u8], span: RowSpan) -> UserRow<'a>
+    requires starts { span.start ≤ span.end }
+    requires ends { span.end ≤ length bytes.now }
+    ensures { row_view result ≡ span_row bytes.now span }
+{
+    UserRow {
+        slot: span.slot,
+        txid: span.txid,
+        payload: &bytes[span.start..span.end],
+    }
+}
+
 impl<'a> Iterator for RowWalk<'a> {
     type Item = UserRow<'a>;
 
@@ -53,16 +67,12 @@ impl<'a> Iterator for RowWalk<'a> {
     ghost remaining = { item_count (λ rows. rows) };
 
     fn next(&mut self) -> Option<UserRow<'a>> {
-        let bytes = self.bytes;
-        match step_of(bytes, &self.cursor) {
+        match step_of(self.bytes, &self.cursor) {
             None => None,
             Some(step) => {
+                let row = row_at(self.bytes, step.row);
                 self.cursor = step.next;
-                Some(UserRow {
-                    slot: step.row.slot,
-                    txid: step.row.txid,
-                    payload: &bytes[step.row.start..step.row.end],
-                })
+                Some(row)
             }
         }
     }
