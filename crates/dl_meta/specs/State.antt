@@ -23,7 +23,7 @@ sessions_code = code_by (ℕ × List Live) (coded× coded_ℕ (coded_list live_c
 
 -- what a journal keeps, of these parts
 abbrev pub journal_with : ℕ × (ℕ × (ℕ × Bool)) → JournalState
-journal_with (file, gate, next, failed) = record { file = file; gate = gate; next = next; failed = failed }
+journal_with (file, (gate, (next, failed))) = record { file = file; gate = gate; next = next; failed = failed }
 
 -- what a journal keeps is stored as the tuple of its parts
 abbrev pub journal_code : Coded JournalState
@@ -33,7 +33,7 @@ journal_code =
 
 -- the store of these parts
 abbrev pub state_with : Nodes × (Known × JournalState) → MetaState
-state_with (tree, sessions, journal) = record { tree = tree; sessions = sessions; journal = journal }
+state_with (tree, (sessions, journal)) = record { tree = tree; sessions = sessions; journal = journal }
 
 -- a store is stored as the tuple of its parts
 abbrev pub state_code : Coded MetaState

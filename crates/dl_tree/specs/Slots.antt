@@ -38,7 +38,7 @@ Covers es (c ∷ cs) = has_slot es c.path × Covers es cs
 
 -- the node of these fields
 abbrev pub node_with : List ℕ × (ℕ × (Option ℕ × ℕ)) → Node
-node_with (bytes, version, owner, counter) = record { bytes = bytes; version = version; owner = owner; counter = counter }
+node_with (bytes, (version, (owner, counter))) = record { bytes = bytes; version = version; owner = owner; counter = counter }
 
 -- a node is stored as the tuple of its fields
 abbrev pub node_code : Coded Node
