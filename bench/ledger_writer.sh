@@ -7,7 +7,7 @@
 set -e
 cd "$(dirname "$(readlink -f "$0")")/.."
 . bench/scratch.sh
-scratch_with bench_writer "dl_types dl_msg dl_lwrite bytes" dl_types dl_reading dl_codec dl_record dl_fields dl_tree_msg dl_msg dl_quorum dl_rules_ledger dl_lwrite
+scratch_with bench_writer "dl_types dl_msg dl_lwrite bytes" dl_types dl_reading dl_codec dl_record dl_fields dl_tree_msg dl_msg dl_quorum dl_rules_ledger dl_subject dl_lwrite
 cat > "$bench/src/main.rt" <<'P'
 //! Times the writer of a ledger, and the bytes of messages.
 #![tactic(auto)]

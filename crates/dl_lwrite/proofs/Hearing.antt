@@ -16,7 +16,7 @@ use Rattle.dl_rules_ledger.proofs.WriterLaws.{acks-more, confirmed_is_greatest}
 use Rattle.dl_lwrite.specs.Answering.{Gains}
 use Rattle.dl_lwrite.specs.Facts.{WriterFacts}
 use Rattle.dl_lwrite.specs.Standing.{StandsFor}
-use Rattle.dl_lwrite.proofs.PlaceLemmas.{acks_at_places}
+use Rattle.dl_lwrite.proofs.AckLemmas.{acks_at_places}
 
 -- what holds beside a test that passes is the whole
 and_with : (s t : Bool) → t ≡ true → (s && t) ≡ s

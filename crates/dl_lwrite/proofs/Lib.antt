@@ -1,3 +1,3 @@
-pub mod PlaceLemmas
+pub mod AckLemmas
 pub mod Hearing
 pub mod Sends

@@ -6,43 +6,15 @@ ghost use Rattle.dl_quorum.specs.Places.{holds};
 ghost use Rattle.dl_quorum.specs.Pieces.{ensemble_members};
 ghost use Rattle.dl_rules_ledger.specs.Leading.{leading_count};
 ghost use Rattle.dl_rules_ledger.specs.Writers.{is_add_ok, is_add_fenced, or_else};
-ghost use Rattle.dl_lwrite.specs.Answering.{LeadsTo, is_at, Gains};
+ghost use Rattle.dl_lwrite.specs.Answering.{Gains};
 
 use dl_msg::msg::Msg;
 use dl_quorum::place_set::PlaceSet;
 use dl_quorum::placement::confirmed;
+use dl_subject::places::place_of;
 use dl_types::ensemble::Ensemble;
 use dl_types::quorum::Quorum;
 use std::collections::VecDeque;
-
-/// How many steps round all bookies lead from the ensemble's first bookie to another.
-fn steps_to(ensemble: &Ensemble, bookie: u8) -> u8
-    requires { bookie < ensemble.now.bookies }
-    ensures { LeadsTo ensemble.now bookie result }
-{
-    if ensemble.first <= bookie {
-        bookie - ensemble.first
-    } else {
-        bookie + ensemble.bookies - ensemble.first
-    }
-}
-
-/// The place of a bookie in an ensemble, where it has one.
-fn place_of(ensemble: &Ensemble, bookie: u8) -> Option<u8>
-    ensures few { (at : ℕ) → result ≡ Some at → at < ensemble.now.e }
-    ensures exact { (place : ℕ) → place < ensemble.now.e
-        → is_at result place ≡ (bookie == slice_index (ensemble_members ensemble.now) place) }
-{
-    if bookie >= ensemble.bookies {
-        return None;
-    }
-    let place = steps_to(ensemble, bookie);
-    if place < ensemble.e {
-        Some(place)
-    } else {
-        None
-    }
-}
 
 /// Adds a place to the answers of the entry at an index of the window.
 fn note(window: &mut VecDeque<PlaceSet>, at: usize, place: u8)

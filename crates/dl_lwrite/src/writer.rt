@@ -131,11 +131,11 @@ impl LedgerWriter {
             self.ledger,
             entry,
             self.confirmed,
-            &bytes,
+            bytes,
         )?;
         self.window.push_back(PlaceSet::empty())?;
         self.sent += 1;
-        Ok((entry, Letters::from_vec(told)))
+        Ok((entry, told))
     }
 
     /// Hears a message of a bookie, and gives the confirmed count afterwards. It takes no memory. Messages that answer no

@@ -21,7 +21,7 @@ returns-clause-sent c v h =
     record {
       free = stop_none v w now c.self.invariant.window c.in_default.is (omega (arith, c.if-len-ge-WINDOW.false, c.len.ensures));
       entry = now.sent;
-      letters = c.from_vec.ensures ∙ c.in_ok-told.ensures ∙ letters_are v w now c.args.bytes;
+      letters = c.in_ok-told.ensures ∙ letters_are v w now c.args.bytes;
       stands = subst (λ xs. StandsFor (with_call v (Sends c.args.bytes)) (record w { sent = w.sent + 1; answers = xs }))
           (sym {A = List ℕ} c.in_ok-push_back.ensures.items)
           (stands_sent v w now c.self.invariant.window c.args.bytes c.empty.result c.empty.ensures.members);
