@@ -24,7 +24,7 @@ done
 cat > "$bench/src/main.rt" <<'P'
 //! Times the requests and the loads of a metadata store on a depot in memory.
 #![tactic(auto)]
-ghost use Rattle.std.specs.Prelude.{IfOk};
+ghost use Rattle.std.specs.Prelude.{IfOk, IfSome};
 ghost use Rattle.dl_depot.specs.Memory.{view_by};
 ghost use Rattle.dl_journal.specs.Settled.{Stands};
 ghost use Rattle.dl_tree_msg.specs.declared.rule.PathRule.TheVariants.{AllButConf};
@@ -72,11 +72,25 @@ fn request_in(alloc: Global, bytes: &[u8]) -> Result<MetaOp, NoMemory>
     }
 }
 
-/// A request that makes so many nodes, from one on.
-fn making(alloc: Global, first: u32) -> Result<MetaOp, NoMemory>
-    ensures valid { IfOk result IsRequest }
-    ensures allowed { IfOk result (IsAllowed (allows AllButConf)) }
+/// Serves the request of these bytes.
+fn serve(
+    alloc: Global,
+    depot: &mut MemDepot,
+    store: &mut MetaStore,
+    number: u32,
+    bytes: &[u8],
+) -> bool
+    requires { Stands (view_by depot.old) store.old.journal }
+    ensures { Stands (view_by depot.new) store.new.journal }
 {
+    match request_in(alloc, bytes) {
+        Err(_) => false,
+        Ok(op) => store.serve(depot, 1, number, &op).is_ok(),
+    }
+}
+
+/// A request that makes so many nodes, from one on.
+fn making(alloc: Global, first: u32) -> Result<Vec<u8>, AllocError> {
     let mut bytes = Vec::new(alloc);
     bytes.push(7)?;
     bytes.extend_from_slice(&[(PER_REQUEST / 256) as u8, (PER_REQUEST % 256) as u8])?;
@@ -85,19 +99,16 @@ fn making(alloc: Global, first: u32) -> Result<MetaOp, NoMemory>
         put_path(&mut bytes, first.wrapping_add(node))?;
         bytes.extend_from_slice(&[0; 4])?;
     }
-    request_in(alloc, &bytes)
+    Ok(bytes)
 }
 
 /// A request that sets a node.
-fn setting(alloc: Global, node: u32) -> Result<MetaOp, NoMemory>
-    ensures valid { IfOk result IsRequest }
-    ensures allowed { IfOk result (IsAllowed (allows AllButConf)) }
-{
+fn setting(alloc: Global, node: u32) -> Result<Vec<u8>, AllocError> {
     let mut bytes = Vec::new(alloc);
     bytes.push(3)?;
     put_path(&mut bytes, node)?;
     bytes.extend_from_slice(&[0, 0, 0, 2, 7, 7, 0])?;
-    request_in(alloc, &bytes)
+    Ok(bytes)
 }
 
 /// Makes so many nodes.
@@ -106,10 +117,10 @@ fn fill(alloc: Global, depot: &mut MemDepot, store: &mut MetaStore, nodes: u32) 
     ensures { Stands (view_by depot.new) store.new.journal }
 {
     'turns: for turn in 0..nodes / PER_REQUEST {
-        let Ok(op) = making(alloc, turn.wrapping_mul(PER_REQUEST)) else {
+        let Ok(bytes) = making(alloc, turn.wrapping_mul(PER_REQUEST)) else {
             return false;
         };
-        if store.serve(depot, 1, turn.wrapping_add(1), &op).is_err() {
+        if !serve(alloc, depot, store, turn.wrapping_add(1), &bytes) {
             return false;
         }
     }
@@ -119,14 +130,15 @@ fn fill(alloc: Global, depot: &mut MemDepot, store: &mut MetaStore, nodes: u32) 
 /// Sets nodes here and there, a request each.
 fn serve_all(alloc: Global, depot: &mut MemDepot, store: &mut MetaStore, nodes: u32) -> bool
     requires { Stands (view_by depot.old) store.old.journal }
+    ensures { Stands (view_by depot.new) store.new.journal }
 {
     let mut node = 1u32;
     'turns: for turn in 0..REQUESTS {
         node = node.wrapping_mul(1_664_525).wrapping_add(1_013_904_223);
-        let Ok(op) = setting(alloc, node % nodes.max(1)) else {
+        let Ok(bytes) = setting(alloc, node % nodes.max(1)) else {
             return false;
         };
-        if store.serve(depot, 1, turn.wrapping_add(10_000), &op).is_err() {
+        if !serve(alloc, depot, store, turn.wrapping_add(10_000), &bytes) {
             return false;
         }
     }
@@ -148,28 +160,66 @@ fn read_all(alloc: Global, depot: &mut MemDepot) -> u64 {
     count
 }
 
+/// The filled store of so many nodes, where memory suffices.
+fn store_of(alloc: Global, depot: &mut MemDepot, nodes: u32) -> Option<MetaStore>
+    ensures { IfSome result (λ store. Stands (view_by depot.new) store.journal) }
+{
+    let conf = Conf { b: 3, e: 3, qw: 3, qa: 2 };
+    let Ok(mut store) = MetaStore::make(alloc, depot, conf) else {
+        return None;
+    };
+    if store.connect(depot).is_ok() && fill(alloc, depot, &mut store, nodes) {
+        Some(store)
+    } else {
+        None
+    }
+}
+
+/// The microseconds that the requests take, or none where one fails.
+fn time_requests(
+    rt: &HostRuntime,
+    depot: &mut MemDepot,
+    store: &mut MetaStore,
+    nodes: u32,
+) -> io::Result<Option<u128>>
+    requires { Stands (view_by depot.old) store.old.journal }
+{
+    let start = Instant::now(rt)?;
+    let passed = serve_all(rt.alloc(), depot, store, nodes);
+    let served = start.elapsed(rt)?.as_micros();
+    Ok(passed.then_some(served))
+}
+
+/// The microseconds of a plain reading, and how many requests it read.
+fn time_reading(rt: &HostRuntime, depot: &mut MemDepot) -> io::Result<(u64, u128)> {
+    let start = Instant::now(rt)?;
+    let count = read_all(rt.alloc(), depot);
+    let read = start.elapsed(rt)?.as_micros();
+    Ok((count, read))
+}
+
+/// The microseconds of a load, and whether it found a store.
+fn time_load(rt: &HostRuntime, depot: &mut MemDepot) -> io::Result<(bool, u128)> {
+    let start = Instant::now(rt)?;
+    let found = MetaStore::load(rt.alloc(), depot).is_ok();
+    let loaded = start.elapsed(rt)?.as_micros();
+    Ok((found, loaded))
+}
+
+/// Times a store of so many nodes.
 fn times(rt: &HostRuntime, nodes: u32) -> io::Result<()> {
-    let alloc = rt.alloc();
-    let Ok(mut depot) = MemDepot::new(alloc) else {
+    let Ok(mut depot) = MemDepot::new(rt.alloc()) else {
         return rt.println("no memory");
     };
-    let conf = Conf { b: 3, e: 3, qw: 3, qa: 2 };
-    let Ok(mut store) = MetaStore::make(alloc, &mut depot, conf) else {
-        return rt.println("not made");
-    };
-    if store.connect(&mut depot).is_err() || !fill(alloc, &mut depot, &mut store, nodes) {
+    let Some(mut store) = store_of(rt.alloc(), &mut depot, nodes) else {
         return rt.println("not filled");
-    }
-    let start = Instant::now(rt)?;
-    let passed = serve_all(alloc, &mut depot, &mut store, nodes);
-    let served = start.elapsed(rt)?.as_micros();
-    let start = Instant::now(rt)?;
-    let count = read_all(alloc, &mut depot);
-    let read = start.elapsed(rt)?.as_micros();
-    let start = Instant::now(rt)?;
-    let found = MetaStore::load(alloc, &mut depot).is_ok();
-    let loaded = start.elapsed(rt)?.as_micros();
-    println!(rt; "{nodes} {passed} {found} {count} {served} {read} {loaded}")
+    };
+    let Some(served) = time_requests(rt, &mut depot, &mut store, nodes)? else {
+        return rt.println("not served");
+    };
+    let (count, read) = time_reading(rt, &mut depot)?;
+    let (found, loaded) = time_load(rt, &mut depot)?;
+    println!(rt; "{nodes} {found} {count} {served} {read} {loaded}")
 }
 
 fn main(rt: HostRuntime) -> io::Result<()> {
@@ -186,8 +236,8 @@ import sys
 runs = [[line.split() for line in open(name)] for name in sys.argv[1:]]
 print("%9s %12s %12s %12s %9s" % ("nodes", "us a request", "ms to read", "ms to load", "readings"))
 for same in zip(*runs):
-    if len(same[0]) != 7:
+    if len(same[0]) != 6:
         sys.exit("a run failed: %s" % " ".join(same[0]))
-    served, read, loaded = [min(numbers) for numbers in zip(*([int(n) for n in row[4:]] for row in same))]
+    served, read, loaded = [min(numbers) for numbers in zip(*([int(n) for n in row[3:]] for row in same))]
     print("%9s %12.2f %12.1f %12.1f %9.2f" % (same[0][0], served / 2000, read / 1000, loaded / 1000, loaded / max(read, 1)))
 P
