@@ -26,18 +26,18 @@ fn path_in(op: &OneOp) -> &Path
     }
 }
 
-/// The path of the operation at a place of a list, from 0; the empty path where there is none.
+/// The path of the operation at a place of a list, from 0; the root's path where there is none.
 #[tactic(auto, using(crate::proofs::PathLemmas::path_nth_is, crate::proofs::PathLemmas::path_nth_past))]
 fn path_nth(alloc: Global, ops: &[OneOp], place: usize) -> Result<Path, NoMemory>
     ensures { IfOk result (λ path. path ≡ path_nth ops.now place) }
 {
     match ops.get(place) {
         Some(op) => path_in(op).share(),
-        None => Path::new(alloc, b""),
+        None => Path::new(alloc, b"/"),
     }
 }
 
-/// The path of the operation at a place of a request, from 0; the empty path where there is none.
+/// The path of the operation at a place of a request, from 0; the root's path where there is none.
 fn path_at(alloc: Global, op: &MetaOp, place: u16) -> Result<Path, NoMemory>
     ensures { IfOk result (λ path. path ≡ path_at op.now place) }
 {

@@ -8,6 +8,7 @@ use Rattle.dl_types.specs.declared.one_op.OneOp.TheVariants.{Create, Delete, Set
 use Rattle.dl_types.specs.declared.meta_op.MetaOp.{MetaOp}
 use Rattle.dl_types.specs.declared.meta_op.MetaOp.TheVariants as op
 use Rattle.dl_types.specs.Places.{first_place}
+use Rattle.dl_fields.specs.Paths.{path_of_parts}
 use Rattle.dl_formats.specs.declared.ledger.LedgerState.{LedgerState}
 use Rattle.dl_formats.specs.declared.ledger.LedgerState.TheVariants.{Writing, Recovering, Closed}
 use Rattle.dl_formats.specs.declared.segment.SegmentMeta.TheVariants as meta
@@ -154,9 +155,9 @@ path_in (Check path version) = path
 path_in (Get path) = path
 path_in (Children path) = path
 
--- the path of the operation at a place of a list
+-- the path of the operation at a place of a list, and the root's where there is none
 abbrev pub path_nth : List OneOp → ℕ → List ℕ
-path_nth [] place = []
+path_nth [] place = path_of_parts []
 path_nth (x ∷ xs) zero = path_in x
 path_nth (x ∷ xs) (suc place) = path_nth xs place
 
