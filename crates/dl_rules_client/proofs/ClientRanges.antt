@@ -5,12 +5,13 @@ use Rattle.std.specs.List.{AllByRecursion}
 use Rattle.dl_types.specs.declared.refusal.Refusal.{Refusal}
 use Rattle.dl_types.specs.declared.start.Start.{Start}
 use Rattle.dl_types.specs.declared.start.Start.TheVariants as start
+use Rattle.dl_fields.specs.Paths.{IsPathField}
 use Rattle.dl_text.specs.NameFields.{IsName}
 use Rattle.dl_text.specs.PlaceFields.{IsPlaceFrom}
 use Rattle.dl_msg.specs.declared.letter.Letter.{Letter}
 use Rattle.dl_schedule.specs.StepLines.{IsCount, IsClient, IsTxid}
 use Rattle.dl_transcript.specs.declared.event.Event.{Event}
-use Rattle.dl_transcript.specs.Ranges.{IsU32, IsU64}
+use Rattle.dl_transcript.specs.Ranges.{IsU32, IsU64, IsRefusal}
 use Rattle.dl_rules_stream.specs.Orders.{Next, Wait, Ask, Tell, Done, Refused}
 use Rattle.dl_rules_client.specs.Acts.{ClientArgs, SentEntry, Acts, no_acts, with_letters, with_event, shows}
 use Rattle.dl_rules_client.specs.Views.{reader_now, Doing, Makes, Removes, Opens, Recovers, Commits, Confirms, Closes, Seeks, Reads, Truncates, Purges, Order}
@@ -19,13 +20,14 @@ use Rattle.dl_rules_client.specs.Moves.{told_letter, told_letters, refusal_event
 use Rattle.dl_rules_client.specs.Moves.{waits, goes_on}
 use Rattle.dl_rules_stream.specs.Recovers.{recover_stage}
 use Rattle.dl_rules_stream.specs.Opens.{open_stage}
-use Rattle.dl_rules_client.specs.EventRanges.{RefusalFits, FitsItsLine, LetterFits, set_most}
+use Rattle.dl_rules_client.specs.EventRanges.{LetterFits, set_most}
+use Rattle.dl_transcript.specs.Ranges.{IsEvent}
 use Rattle.dl_rules_client.proofs.RangeLists.{all-append, all-map, AllSome, all-last}
 use Rattle.dl_rules_client.proofs.LogRanges.{IsRow, LogFits, log_more}
 use Rattle.dl_rules_client.proofs.NextRanges.{NextFits}
 use Rattle.dl_msg.specs.declared.letters.Told.{Told}
-use Rattle.dl_rules_client.proofs.TellRanges.{ToldFits, TellsFit}
-use Rattle.dl_rules_client.proofs.TellRecoveries.{ReadStageFits}
+use Rattle.dl_rules_client.proofs.TellRanges.{ToldFits, TellsFit, CloseArgsFit}
+use Rattle.dl_rules_client.proofs.TellRecoveries.{ReaderArgsFit, ReadStageFits}
 use Rattle.dl_rules_client.proofs.OpenRanges.{OpenStageFits, RecoverStageFits}
 
 -- ---- what a client keeps
@@ -33,7 +35,7 @@ use Rattle.dl_rules_client.proofs.OpenRanges.{OpenStageFits, RecoverStageFits}
 -- where a reader begins
 abbrev pub StartFits : Start → Type 0
 StartFits start.Oldest = Unit {0}
-StartFits (start.Place d) = Unit {0}
+StartFits (start.Place d) = IsPlaceFrom 0 d
 StartFits (start.Tx txid) = IsTxid txid
 
 -- what an order does, where at most so many lines and letters were taken
@@ -44,7 +46,7 @@ DoingFits me k o (Opens heard) = OpenStageFits (open_stage (open_args me o) hear
 DoingFits me k o (Recovers heard) = RecoverStageFits (recover_stage (recover_args me o) heard)
 DoingFits me k o Commits = Unit {0}
 DoingFits me k o Confirms = Unit {0}
-DoingFits me k o (Closes args heard) = Unit {0}
+DoingFits me k o (Closes args heard) = CloseArgsFit args
 DoingFits me k o (Seeks from heard) = StartFits from
 DoingFits me k o Reads = Unit {0}
 DoingFits me k o (Truncates to heard) = IsPlaceFrom 1 to
@@ -61,11 +63,12 @@ pub record WriterFits (n : ℕ) (w : WriterView) : Type 0 where
   pub stream : IsName w.stream
   pub line : IsU32 w.line
   pub segment : IsU64 w.opened.segment
+  pub member : IsPathField w.opened.member
   pub log : LogFits (set_most * n) (2 * n) (log_now w)
 
 -- a reader is on a stream, and its read goes over the ledgers of its configuration
 abbrev pub ReaderFits : ReaderView → Type 0
-ReaderFits r = IsName r.args.stream × IsCount r.args.conf.b × ReadStageFits (reader_now r).stage
+ReaderFits r = ReaderArgsFit r.args × ReadStageFits (reader_now r).stage
 
 -- A client, where at most so many lines were taken, and so many lines and letters.
 pub record NowFits (me : ClientArgs) (n k : ℕ) (now : ClientNow) : Type 0 where
@@ -84,7 +87,7 @@ pub record SentFits (x : SentEntry) : Type 0 where
 
 -- What a client does as it takes so many lines more.
 pub record ActsFit (more : ℕ) (acts : Acts) : Type 0 where
-  pub events : AllByRecursion FitsItsLine acts.events
+  pub events : AllByRecursion IsEvent acts.events
   pub sent : AllSome SentFits acts.sent
   pub taken : acts.taken ≤ set_most * more
   pub letters : AllByRecursion LetterFits acts.letters
@@ -103,6 +106,7 @@ writer_more n m h (Some w) fit = record {
   stream = fit.stream;
   line = fit.line;
   segment = fit.segment;
+  member = fit.member;
   log = log_more (set_most * n) (set_most * m) (2 * n) (2 * m) (log_now w) (omega (arith, h)) (omega (arith, h)) fit.log;
 }
 
@@ -124,7 +128,7 @@ order_later me k o (Opens heard) is = is
 order_later me k o (Recovers heard) is = is
 order_later me k o Commits is = tt
 order_later me k o Confirms is = tt
-order_later me k o (Closes args heard) is = tt
+order_later me k o (Closes args heard) is = is
 order_later me k o (Seeks from heard) is = is
 order_later me k o Reads is = tt
 order_later me k o (Truncates to heard) is = is
@@ -166,11 +170,11 @@ pub each_letter_fits : (me : ClientArgs) (ts : List Told) → IsClient me.number
 each_letter_fits me ts c each = all-map ToldFits LetterFits (told_letter me) (λ t is. ((c, is.0), is.1)) ts each
 
 -- an event more
-pub event_fits : (more : ℕ) (e : Event) (acts : Acts) → FitsItsLine e → ActsFit more acts → ActsFit more (with_event e acts)
-event_fits more e acts h fit = record { events = all-last FitsItsLine acts.events e fit.events h; sent = fit.sent; taken = fit.taken; letters = fit.letters }
+pub event_fits : (more : ℕ) (e : Event) (acts : Acts) → IsEvent e → ActsFit more acts → ActsFit more (with_event e acts)
+event_fits more e acts h fit = record { events = all-last IsEvent acts.events e fit.events h; sent = fit.sent; taken = fit.taken; letters = fit.letters }
 
 -- one event alone
-pub shows_fit : (more : ℕ) (e : Event) → FitsItsLine e → ActsFit more (shows e)
+pub shows_fit : (more : ℕ) (e : Event) → IsEvent e → ActsFit more (shows e)
 shows_fit more e h = event_fits more e no_acts h (no_acts_fit more)
 
 -- ---- moves
@@ -199,7 +203,7 @@ pub stays_fits : (me : ClientArgs) (n k more : ℕ) (now : ClientNow) → NowFit
 stays_fits me n k more now fit = record { now = fit; acts = no_acts_fit more }
 
 -- a line that is refused
-pub refuses_fits : (me : ClientArgs) (n k more : ℕ) (now : ClientNow) (r : Refusal) → IsClient me.number → RefusalFits r → NowFits me n k now
+pub refuses_fits : (me : ClientArgs) (n k more : ℕ) (now : ClientNow) (r : Refusal) → IsClient me.number → IsRefusal r → NowFits me n k now
     → MoveFits me n k more (refuses me now r)
 refuses_fits me n k more now r c is fit = record { now = fit; acts = shows_fit more (refusal_event me r) (c, is) }
 
@@ -210,7 +214,7 @@ waits_fits me n k more now o acts is fit done = record { now = with_fits me n k 
 
 -- an order that ends with an event
 pub ends_fits : (me : ClientArgs) (n k more : ℕ) (now : ClientNow) (o : Order) (acts : Acts) (e : Event) → NowFits me n k now → ActsFit more acts
-    → FitsItsLine e → MoveFits me n k more (ends_with now o acts e)
+    → IsEvent e → MoveFits me n k more (ends_with now o acts e)
 ends_fits me n k more now o acts e fit done h = record { now = without_fits me n k now o fit; acts = event_fits more e acts h done }
 
 -- an order that goes on

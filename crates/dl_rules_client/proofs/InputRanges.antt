@@ -31,7 +31,9 @@ use Rattle.dl_rules_client.specs.Orders.{order_hears}
 use Rattle.dl_rules_client.specs.Clients.{reply_hears, meta_hears, tagged_hears, takes_msg, bookie_in, takes_order, if_free, takes_line}
 use Rattle.dl_rules_client.specs.Clients.{with_confirmation, client_takes, client_of, acts_of}
 use Rattle.dl_rules_client.proofs.RangeLists.{cond_both}
-use Rattle.dl_rules_client.specs.EventRanges.{ClientActsFit, IsInput, IsCountable, LetterFits, lines_in, ArgsFit}
+use Rattle.dl_rules_client.specs.EventRanges.{ClientActsFit, IsInput, IsCountable, ReplyFits, MsgFits, LetterFits, lines_in, ArgsFit}
+use Rattle.dl_rules_client.proofs.NextRanges.{HeardFits}
+use Rattle.dl_rules_client.proofs.TellRanges.{any_place}
 use Rattle.dl_rules_client.proofs.OpenRanges.{recover_begun}
 use Rattle.dl_rules_client.proofs.RangeLists.{AllSome}
 use Rattle.dl_rules_client.proofs.ClientRanges.{now_later, some_later, OrderFits, NowFits, MoveFits, now_more, new_fits, no_acts_fit, stays_fits}
@@ -46,39 +48,39 @@ settled_fits : (me : ClientArgs) (n k : ℕ) (now : ClientNow) → NowFits me n 
 settled_fits me n k now fit = record { count = fit.count; taken = fit.taken; order = fit.order; writer = fit.writer; reader = fit.reader }
 
 -- the order under way hears something
-heard_fits : (me : ClientArgs) (n k : ℕ) (now : ClientNow) (o : Order) (h : Heard) → ArgsFit n (suc k) me → OrderFits me k o → NowFits me n k now
+heard_fits : (me : ClientArgs) (n k : ℕ) (now : ClientNow) (o : Order) (h : Heard) → ArgsFit n (suc k) me → HeardFits h → OrderFits me k o → NowFits me n k now
     → MoveFits me n (suc k) 0 (order_hears me now o h o.doing)
-heard_fits me n k now o h args order fit =
-    order_fits me n k 0 now o h o.doing args.number args.counted order.stream order.doing (some_later me k (Some o) order) (now_later me n k now fit)
+heard_fits me n k now o h args said order fit =
+    order_fits me n k 0 now o h o.doing args.number args.counted order.stream order.doing said (some_later me k (Some o) order) (now_later me n k now fit)
 
 -- a client that takes a letter and stays as it is
 idle_fits : (me : ClientArgs) (n k : ℕ) (now : ClientNow) → NowFits me n k now → MoveFits me n (suc k) 0 (stays now no_acts)
 idle_fits me n k now fit = stays_fits me n (suc k) 0 now (now_later me n k now fit)
 
 -- the reply to the present request
-reply_fits : (me : ClientArgs) (n k : ℕ) (now : ClientNow) (o : Option Order) (r : MetaReply) → ArgsFit n (suc k) me → AllSome (OrderFits me k) o
-    → NowFits me n k now → MoveFits me n (suc k) 0 (reply_hears me now o r)
-reply_fits me n k now None r args order fit = idle_fits me n k now fit
-reply_fits me n k now (Some o) Expired args order fit =
+reply_fits : (me : ClientArgs) (n k : ℕ) (now : ClientNow) (o : Option Order) (r : MetaReply) → ArgsFit n (suc k) me → ReplyFits r
+    → AllSome (OrderFits me k) o → NowFits me n k now → MoveFits me n (suc k) 0 (reply_hears me now o r)
+reply_fits me n k now None r args said order fit = idle_fits me n k now fit
+reply_fits me n k now (Some o) Expired args said order fit =
     ends_fits me n (suc k) 0 now o no_acts (refusal_event me (why.Expired me.session)) (now_later me n k now fit) (no_acts_fit 0)
     (args.number, args.session)
-reply_fits me n k now (Some o) (Answer a) args order fit = heard_fits me n k now o (Reply a) args order fit
+reply_fits me n k now (Some o) (Answer a) args said order fit = heard_fits me n k now o (Reply a) args said order fit
 
 -- a reply
-meta_fits : (me : ClientArgs) (n k : ℕ) (now : ClientNow) (session number : ℕ) (r : MetaReply) → ArgsFit n (suc k) me → NowFits me n k now
+meta_fits : (me : ClientArgs) (n k : ℕ) (now : ClientNow) (session number : ℕ) (r : MetaReply) → ArgsFit n (suc k) me → ReplyFits r → NowFits me n k now
     → MoveFits me n (suc k) 0 (meta_hears me now session number r)
-meta_fits me n k now session number r args fit =
+meta_fits me n k now session number r args said fit =
     cond_both (MoveFits me n (suc k) 0) (session == me.session && number == now.asked && now.awaits)
     (reply_hears me (record now { awaits = false }) now.order r) (stays now no_acts)
-    (reply_fits me n k (record now { awaits = false }) now.order r args fit.order (settled_fits me n k now fit)) (idle_fits me n k now fit)
+    (reply_fits me n k (record now { awaits = false }) now.order r args said fit.order (settled_fits me n k now fit)) (idle_fits me n k now fit)
 
 -- a tagged message
-tagged_fits : (me : ClientArgs) (n k : ℕ) (now : ClientNow) (o : Option Order) (tag b : ℕ) (m : Msg) → ArgsFit n (suc k) me → AllSome (OrderFits me k) o
-    → NowFits me n k now → MoveFits me n (suc k) 0 (tagged_hears me now o tag b m)
-tagged_fits me n k now None tag b m args order fit = idle_fits me n k now fit
-tagged_fits me n k now (Some o) tag b m args order fit =
+tagged_fits : (me : ClientArgs) (n k : ℕ) (now : ClientNow) (o : Option Order) (tag b : ℕ) (m : Msg) → ArgsFit n (suc k) me → MsgFits m
+    → AllSome (OrderFits me k) o → NowFits me n k now → MoveFits me n (suc k) 0 (tagged_hears me now o tag b m)
+tagged_fits me n k now None tag b m args said order fit = idle_fits me n k now fit
+tagged_fits me n k now (Some o) tag b m args said order fit =
     cond_both (MoveFits me n (suc k) 0) (tag == o.line) (order_hears me now o (From b m) o.doing) (stays now no_acts)
-    (heard_fits me n k now o (From b m) args order fit) (idle_fits me n k now fit)
+    (heard_fits me n k now o (From b m) args said order fit) (idle_fits me n k now fit)
 
 -- an answer to an entry
 answered_fits : (me : ClientArgs) (n k : ℕ) (now : ClientNow) (l b : ℕ) (m : Msg) → ArgsFit n (suc k) me → IsBookie b → NowFits me n k now
@@ -86,22 +88,22 @@ answered_fits : (me : ClientArgs) (n k : ℕ) (now : ClientNow) (l b : ℕ) (m :
 answered_fits me n k now l b m args from fit = writer_hears_fits me n (suc k) now now.writer l b m args from fit.writer (now_later me n k now fit)
 
 -- a message by its kind
-msg_fits : (me : ClientArgs) (n k : ℕ) (now : ClientNow) (b : ℕ) (m : Msg) → ArgsFit n (suc k) me → IsBookie b → NowFits me n k now
+msg_fits : (me : ClientArgs) (n k : ℕ) (now : ClientNow) (b : ℕ) (m : Msg) → ArgsFit n (suc k) me → IsBookie b → MsgFits m → NowFits me n k now
     → MoveFits me n (suc k) 0 (takes_msg me now b m)
 unfolding takes_msg
-msg_fits me n k now b (msg.Add l e c bytes) args from fit = idle_fits me n k now fit
-msg_fits me n k now b (msg.Copy t l e c bytes) args from fit = idle_fits me n k now fit
-msg_fits me n k now b (msg.AskLac t l f) args from fit = idle_fits me n k now fit
-msg_fits me n k now b (msg.AskEntry t l e) args from fit = idle_fits me n k now fit
-msg_fits me n k now b (msg.AddOk l e) args from fit = answered_fits me n k now l b (msg.AddOk l e) args from fit
-msg_fits me n k now b (msg.AddFenced l e) args from fit = answered_fits me n k now l b (msg.AddFenced l e) args from fit
-msg_fits me n k now b (msg.Full what l e) args from fit = idle_fits me n k now fit
-msg_fits me n k now b (msg.CopyOk t l e) args from fit = tagged_fits me n k now now.order t b (msg.CopyOk t l e) args fit.order fit
-msg_fits me n k now b (msg.LacIs t l f c) args from fit = tagged_fits me n k now now.order t b (msg.LacIs t l f c) args fit.order fit
-msg_fits me n k now b (msg.EntryIs t l e bytes) args from fit = tagged_fits me n k now now.order t b (msg.EntryIs t l e bytes) args fit.order fit
-msg_fits me n k now b (msg.NoEntry t l e f) args from fit = tagged_fits me n k now now.order t b (msg.NoEntry t l e f) args fit.order fit
-msg_fits me n k now b (msg.MetaAsk session number op) args from fit = idle_fits me n k now fit
-msg_fits me n k now b (msg.MetaReply session number r) args from fit = meta_fits me n k now session number r args fit
+msg_fits me n k now b (msg.Add l e c bytes) args from said fit = idle_fits me n k now fit
+msg_fits me n k now b (msg.Copy t l e c bytes) args from said fit = idle_fits me n k now fit
+msg_fits me n k now b (msg.AskLac t l f) args from said fit = idle_fits me n k now fit
+msg_fits me n k now b (msg.AskEntry t l e) args from said fit = idle_fits me n k now fit
+msg_fits me n k now b (msg.AddOk l e) args from said fit = answered_fits me n k now l b (msg.AddOk l e) args from fit
+msg_fits me n k now b (msg.AddFenced l e) args from said fit = answered_fits me n k now l b (msg.AddFenced l e) args from fit
+msg_fits me n k now b (msg.Full what l e) args from said fit = idle_fits me n k now fit
+msg_fits me n k now b (msg.CopyOk t l e) args from said fit = tagged_fits me n k now now.order t b (msg.CopyOk t l e) args said fit.order fit
+msg_fits me n k now b (msg.LacIs t l f c) args from said fit = tagged_fits me n k now now.order t b (msg.LacIs t l f c) args said fit.order fit
+msg_fits me n k now b (msg.EntryIs t l e bytes) args from said fit = tagged_fits me n k now now.order t b (msg.EntryIs t l e bytes) args said fit.order fit
+msg_fits me n k now b (msg.NoEntry t l e f) args from said fit = tagged_fits me n k now now.order t b (msg.NoEntry t l e f) args said fit.order fit
+msg_fits me n k now b (msg.MetaAsk session number op) args from said fit = idle_fits me n k now fit
+msg_fits me n k now b (msg.MetaReply session number r) args from said fit = meta_fits me n k now session number r args said fit
 
 -- ---- lines
 
@@ -110,33 +112,33 @@ order_line_fits : (me : ClientArgs) (n k : ℕ) (now : ClientNow) (line : ℕ) (
     → MoveFits me (suc n) k 1 (takes_order me now line x)
 unfolding takes_order
 order_line_fits me n k now line (step.Create c s) args is fit =
-    begins_fits me (suc n) k 1 now line s (Makes []) (λ o. (make_first s).1) args.number is.0 is.1.1 tt tt (now_more me n k (suc n) now (omega arith) fit)
+    begins_fits me (suc n) k 1 now line s (Makes []) (λ o. (make_first s).1) args.number is.0 is.1.1 tt is.1.1 (now_more me n k (suc n) now (omega arith) fit)
 order_line_fits me n k now line (step.Remove c s) args is fit =
-    begins_fits me (suc n) k 1 now line s (Removes []) (λ o. (remove_first s).1) args.number is.0 is.1.1 tt tt (now_more me n k (suc n) now (omega arith) fit)
+    begins_fits me (suc n) k 1 now line s (Removes []) (λ o. (remove_first s).1) args.number is.0 is.1.1 tt is.1.1 (now_more me n k (suc n) now (omega arith) fit)
 order_line_fits me n k now line (step.Open c s) args is fit =
     let next = now_more me n k (suc n) now (omega arith) fit in
     begins_open_fits me (suc n) k 1 now line s now.writer args.number is.0 is.1.1 next.writer next
 order_line_fits me n k now line (step.Recover c s) args is fit =
     begins_fits me (suc n) k 1 now line s (Recovers []) (λ o. (recover_first (recover_args me o)).1) args.number is.0 is.1.1
-    (recover_begun (record { tag = line; stream = s; conf = me.conf })) tt (now_more me n k (suc n) now (omega arith) fit)
+    (recover_begun (record { tag = line; stream = s; conf = me.conf })) is.1.1 (now_more me n k (suc n) now (omega arith) fit)
 order_line_fits me n k now line (step.Purge c s) args is fit =
-    begins_fits me (suc n) k 1 now line s (Purges []) (λ o. (purge_first s).1) args.number is.0 is.1.1 (omega arith) tt
+    begins_fits me (suc n) k 1 now line s (Purges []) (λ o. (purge_first s).1) args.number is.0 is.1.1 (omega arith) is.1.1
     (now_more me n k (suc n) now (omega arith) fit)
 order_line_fits me n k now line (step.Commit c) args is fit = commit_fits me n k now line now.writer args is.0 fit.writer fit
 order_line_fits me n k now line (step.Close c) args is fit = confirm_fits me n k now line now.writer args is.0 fit.writer fit
 order_line_fits me n k now line (step.SeekOldest c s) args is fit =
-    begins_fits me (suc n) k 1 now line s (Seeks start.Oldest []) (λ o. (seek_first s).1) args.number is.0 is.1.1 tt tt
+    begins_fits me (suc n) k 1 now line s (Seeks start.Oldest []) (λ o. (seek_first s).1) args.number is.0 is.1.1 tt is.1.1
     (now_more me n k (suc n) now (omega arith) fit)
 order_line_fits me n k now line (step.SeekPlace c s d) args is fit =
-    begins_fits me (suc n) k 1 now line s (Seeks (start.Place d) []) (λ o. (seek_first s).1) args.number is.0 is.1.1.0 tt tt
+    begins_fits me (suc n) k 1 now line s (Seeks (start.Place d) []) (λ o. (seek_first s).1) args.number is.0 is.1.1.0 (any_place d is.1.1.1) is.1.1.0
     (now_more me n k (suc n) now (omega arith) fit)
 order_line_fits me n k now line (step.SeekTxid c s txid) args is fit =
-    begins_fits me (suc n) k 1 now line s (Seeks (start.Tx txid) []) (λ o. (seek_first s).1) args.number is.0 is.1.1.0 is.1.1.1 tt
+    begins_fits me (suc n) k 1 now line s (Seeks (start.Tx txid) []) (λ o. (seek_first s).1) args.number is.0 is.1.1.0 is.1.1.1 is.1.1.0
     (now_more me n k (suc n) now (omega arith) fit)
 order_line_fits me n k now line (step.Read c count) args is fit =
-    begins_read_fits me (suc n) k 1 now line count now.reader args.number is.0 fit.reader (now_more me n k (suc n) now (omega arith) fit)
+    begins_read_fits me (suc n) k 1 now line count now.reader args.number is.0 is.1.1.1 fit.reader (now_more me n k (suc n) now (omega arith) fit)
 order_line_fits me n k now line (step.Truncate c s d) args is fit =
-    begins_fits me (suc n) k 1 now line s (Truncates d []) (λ o. (truncate_first (truncate_args o d)).1) args.number is.0 is.1.1.0 is.1.1.1 tt
+    begins_fits me (suc n) k 1 now line s (Truncates d []) (λ o. (truncate_first (truncate_args o d)).1) args.number is.0 is.1.1.0 is.1.1.1 is.1.1.0
     (now_more me n k (suc n) now (omega arith) fit)
 order_line_fits me n k now line x args is fit = stays_fits me (suc n) k 1 now (now_more me n k (suc n) now (omega arith) fit)
 
@@ -189,7 +191,7 @@ pub taken_letter_fits : (me : ClientArgs) (n k : ℕ) (now : ClientNow) (l : Let
 unfolding client_takes
 taken_letter_fits me n k now l args link fit =
     confirmed_fits me n (suc k) 0 (takes_msg me now (bookie_in l.from) l.msg)
-    (msg_fits me n k now (bookie_in l.from) l.msg args (from_fits l.from l.to link.0) fit)
+    (msg_fits me n k now (bookie_in l.from) l.msg args (from_fits l.from l.to link.0) link.1 fit)
 
 -- a client with fewer lines and letters
 pub fewer : (me : ClientArgs) (n m i j : ℕ) → n ≤ m → i ≤ j → ArgsFit m j me → ArgsFit n i me

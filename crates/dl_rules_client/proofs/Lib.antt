@@ -1,6 +1,9 @@
 pub mod RangeLists
 pub mod NextRanges
 pub mod NodeRanges
+pub mod PathRanges
+pub mod ByteRanges
+pub mod RowRanges
 pub mod LogRanges
 pub mod RecoveryRanges
 pub mod OpenRanges

@@ -8,7 +8,7 @@ use Rattle.dl_types.specs.declared.row.Row.{Row}
 use Rattle.dl_types.specs.declared.refusal.Refusal.{Refusal}
 use Rattle.dl_types.specs.declared.refusal.Refusal.TheVariants as refused
 use Rattle.dl_record.specs.declared.stored.Stored.{Stored}
-use Rattle.dl_record.specs.declared.stored.Stored.TheVariants.{Plain, Set}
+use Rattle.dl_record.specs.declared.stored.Stored.TheVariants.{Plain, Control, Set}
 use Rattle.dl_text.specs.Hex.{AllBytes}
 use Rattle.dl_text.specs.Numbers.{most_u32, most_u64}
 use Rattle.dl_text.specs.PlaceFields.{IsPlaceFrom}
@@ -30,7 +30,10 @@ use Rattle.dl_rules_stream.specs.LogWriters.{log_state, SentEntry, last_behind, 
 use Rattle.dl_quorum.specs.Pieces.{members}
 use Rattle.dl_record.specs.Grammar.{entry_bytes}
 use Rattle.dl_rules_ledger.specs.Writers.{add_letters, is_add_fenced, first_fence, or_else}
-use Rattle.dl_rules_client.specs.EventRanges.{RefusalFits, set_most}
+use Rattle.dl_transcript.specs.Ranges.{IsRefusal}
+use Rattle.dl_rules_client.specs.EventRanges.{set_most}
+use Rattle.dl_codec.specs.Fields.{IsBytes}
+use Rattle.dl_rules_client.proofs.ByteRanges.{StoredFits, entry_spelt}
 use Rattle.dl_rules_client.proofs.TellRanges.{ToldFits}
 use Rattle.dl_rules_client.proofs.RangeLists.{cond_both}
 use Rattle.dl_rules_client.proofs.RangeLists.{AllSome, all-map, all-append, all-last, all-take, all-drop, all-flat}
@@ -71,6 +74,7 @@ ControlUpTo most Closable = Unit {0}
 -- A log writer with at most so many records under way, and at most so many entries sent or due.
 pub record LogFits (records entries : ℕ) (w : LogNow) : Type 0 where
   pub segment : IsU64 w.segment
+  pub parts : AllByRecursion StoredFits w.parts
   pub pending : AllByRecursion IsPending w.pending
   pub few : length w.pending ≤ records
   pub rows : AllByRecursion (AllByRecursion IsRow) w.entries
@@ -90,7 +94,7 @@ pub record LogMoveFits (records entries : ℕ) (m : LogMove) : Type 0 where
 -- a move, where a call is not refused
 abbrev pub CallFits : (records entries : ℕ) → Result LogMove Refusal → Type 0
 CallFits r e (Ok m) = LogMoveFits r e m
-CallFits r e (Err why) = RefusalFits why
+CallFits r e (Err why) = IsRefusal why
 
 -- a greater bound on control entries
 control_more : (e f : ℕ) (mode : LogMode) → e ≤ f → ControlUpTo e mode → ControlUpTo f mode
@@ -105,6 +109,7 @@ control_more e f Closable h c = tt
 pub log_more : (r q e f : ℕ) (w : LogNow) → r ≤ q → e ≤ f → LogFits r e w → LogFits q f w
 log_more r q e f w h k fit = record {
   segment = fit.segment;
+  parts = fit.parts;
   pending = fit.pending;
   few = omega (arith, h, fit.few);
   rows = fit.rows;
@@ -142,10 +147,11 @@ rows_at_fit segment entry slot (p ∷ ps) s e few each =
     )
 
 -- the messages by which an entry is sent
-add_letters_fit : {r e : ℕ} (w : LogNow) (bytes : List ℕ) → LogFits r e w → AllByRecursion ToldFits (add_letters w.ledger bytes)
+add_letters_fit : {r e : ℕ} (w : LogNow) (bytes : List ℕ) → sent_count w ≤ most_u64 → IsBytes bytes → LogFits r e w
+    → AllByRecursion ToldFits (add_letters w.ledger bytes)
 unfolding add_letters
-add_letters_fit w bytes fit =
-    all-map IsBookie ToldFits _ (λ b is. (is, tt)) (members w.ledger.pieces (sent_count w)) (fit.members (sent_count w))
+add_letters_fit w bytes few are fit =
+    all-map IsBookie ToldFits _ (λ b is. (is, ((omega arith, few), are))) (members w.ledger.pieces (sent_count w)) (fit.members (sent_count w))
 
 -- the entry under way is sent
 parts_fit : (r e : ℕ) (w : LogNow) → r ≤ most_u32 → e ≤ most_u64 → LogFits r e w → LogMoveFits r (suc e) (sends_parts w)
@@ -153,6 +159,7 @@ unfolding sends_parts
 parts_fit r e w h k fit = record {
   now = record {
     segment = fit.segment;
+    parts = tt;
     pending = tt;
     few = omega arith;
     rows = all-last (AllByRecursion IsRow) w.entries (rows_due w) fit.rows
@@ -165,7 +172,7 @@ parts_fit r e w h k fit = record {
     last = fit.last;
   };
   rows = tt;
-  letters = add_letters_fit w (entry_bytes w.parts) fit;
+  letters = add_letters_fit w (entry_bytes w.parts) (omega (arith, k, fit.sent)) (entry_spelt w.parts fit.parts) fit;
 }
 
 -- the entry under way is sent, where there is one
@@ -184,6 +191,7 @@ room_fit r e size w h k fit =
 mode_fit : (r e : ℕ) (w : LogNow) (mode : LogMode) → due mode ≤ 1 → ControlUpTo (suc e) mode → LogFits r e w → LogFits r (suc e) (in_mode mode w)
 mode_fit r e w mode one control fit = record {
   segment = fit.segment;
+  parts = fit.parts;
   pending = fit.pending;
   few = fit.few;
   rows = fit.rows;
@@ -196,13 +204,14 @@ mode_fit r e w mode one control fit = record {
 }
 
 -- the control entry is sent that was due
-control_fit : (r e : ℕ) (w : LogNow) → w.mode ≡ Committing None → LogFits r e w → LogMoveFits r e (sends_control w)
+control_fit : (r e : ℕ) (w : LogNow) → e ≤ most_u64 → w.mode ≡ Committing None → LogFits r e w → LogMoveFits r e (sends_control w)
 unfolding sends_control
-control_fit r e w is fit =
+control_fit r e w k is fit =
     let one : due w.mode ≡ 1 = ap due is in
     record {
       now = record {
         segment = fit.segment;
+        parts = fit.parts;
         pending = fit.pending;
         few = fit.few;
         rows = all-last (AllByRecursion IsRow) w.entries [] fit.rows tt;
@@ -214,13 +223,14 @@ control_fit r e w is fit =
         last = fit.last;
       };
       rows = tt;
-      letters = add_letters_fit w (control_bytes w) fit;
+      letters = add_letters_fit w (control_bytes w) (omega (arith, k, fit.sent)) (entry_spelt (Control w.rows_sent w.last_sent ∷ []) (tt, tt)) fit;
     }
 
 -- a commit that has its control entry confirmed
 committed_fit : (r e n : ℕ) (w : LogNow) → w.mode ≡ Committing (Some n) → LogFits r e w → LogFits r e (record w { mode = Committed n })
 committed_fit r e n w is fit = record {
   segment = fit.segment;
+  parts = fit.parts;
   pending = fit.pending;
   few = fit.few;
   rows = fit.rows;
@@ -236,6 +246,7 @@ committed_fit r e n w is fit = record {
 closable_fit : (r e : ℕ) (w : LogNow) → LogFits r e w → LogFits r e (record w { mode = Closable })
 closable_fit r e w fit = record {
   segment = fit.segment;
+  parts = fit.parts;
   pending = fit.pending;
   few = fit.few;
   rows = fit.rows;
@@ -248,29 +259,29 @@ closable_fit r e w fit = record {
 }
 
 -- the next step of a mode
-next_fit : (r e : ℕ) (w : LogNow) (mode : LogMode) → w.mode ≡ mode → LogFits r e w → LogMoveFits r e (mode_goes_on w mode)
-next_fit r e w (Committing None) is fit =
-    cond_both (LogMoveFits r e) (all_confirmed w) (sends_control w) (stays w) (control_fit r e w is fit) (stays_fit r e w fit)
-next_fit r e w (Committing (Some n)) is fit =
+next_fit : (r e : ℕ) (w : LogNow) (mode : LogMode) → e ≤ most_u64 → w.mode ≡ mode → LogFits r e w → LogMoveFits r e (mode_goes_on w mode)
+next_fit r e w (Committing None) k is fit =
+    cond_both (LogMoveFits r e) (all_confirmed w) (sends_control w) (stays w) (control_fit r e w k is fit) (stays_fit r e w fit)
+next_fit r e w (Committing (Some n)) k is fit =
     cond_both (LogMoveFits r e) _ (stays (record w { mode = Committed n })) (stays w)
     (stays_fit r e _ (committed_fit r e n w is fit)) (stays_fit r e w fit)
-next_fit r e w Closing is fit =
+next_fit r e w Closing k is fit =
     cond_both (LogMoveFits r e) (all_confirmed w) (stays (record w { mode = Closable })) (stays w)
     (stays_fit r e _ (closable_fit r e w fit)) (stays_fit r e w fit)
-next_fit r e w Open is fit = stays_fit r e w fit
-next_fit r e w (Committed n) is fit = stays_fit r e w fit
-next_fit r e w Closable is fit = stays_fit r e w fit
+next_fit r e w Open k is fit = stays_fit r e w fit
+next_fit r e w (Committed n) k is fit = stays_fit r e w fit
+next_fit r e w Closable k is fit = stays_fit r e w fit
 
 -- a writer goes on, where it isn't fenced
-on_fit : (r e : ℕ) (w : LogNow) → LogFits r e w → LogMoveFits r e (goes_on w)
+on_fit : (r e : ℕ) (w : LogNow) → e ≤ most_u64 → LogFits r e w → LogMoveFits r e (goes_on w)
 unfolding goes_on
-on_fit r e w fit =
-    cond_both (LogMoveFits r e) (is_some (fenced_at w)) (stays w) (mode_goes_on w w.mode) (stays_fit r e w fit) (next_fit r e w w.mode refl fit)
+on_fit r e w k fit =
+    cond_both (LogMoveFits r e) (is_some (fenced_at w)) (stays w) (mode_goes_on w w.mode) (stays_fit r e w fit) (next_fit r e w w.mode k refl fit)
 
 -- a writer goes on after a move
-then_fit : (r e : ℕ) (m : LogMove) → LogMoveFits r e m → LogMoveFits r e (then_goes_on m)
-then_fit r e m fit =
-    let next = on_fit r e m.now fit.now in
+then_fit : (r e : ℕ) (m : LogMove) → e ≤ most_u64 → LogMoveFits r e m → LogMoveFits r e (then_goes_on m)
+then_fit r e m k fit =
+    let next = on_fit r e m.now k fit.now in
     record {
       now = next.now;
       rows = all-append IsRow m.rows (goes_on m.now).rows fit.rows next.rows;
@@ -278,36 +289,36 @@ then_fit r e m fit =
     }
 
 -- a call that may be refused
-unless_fit : (r e : ℕ) (why : Option Refusal) (m : LogMove) → AllSome RefusalFits why → LogMoveFits r e m → CallFits r e (unless why m)
+unless_fit : (r e : ℕ) (why : Option Refusal) (m : LogMove) → AllSome IsRefusal why → LogMoveFits r e m → CallFits r e (unless why m)
 unless_fit r e None m is fit = fit
 unless_fit r e (Some why) m is fit = is
 
 -- ---- refusals
 
 -- a close has begun, or the ledger is fenced
-writer_fault_fits : (closing : Bool) (fenced : Option ℕ) → AllSome IsBookie fenced → AllSome RefusalFits (writer_fault closing fenced)
+writer_fault_fits : (closing : Bool) (fenced : Option ℕ) → AllSome IsBookie fenced → AllSome IsRefusal (writer_fault closing fenced)
 writer_fault_fits true fenced is = tt
 writer_fault_fits false (Some b) is = is
 writer_fault_fits false None is = tt
 
 -- a first fault, or else the second one
-or_fault_fits : (x y : Option Refusal) → AllSome RefusalFits x → AllSome RefusalFits y → AllSome RefusalFits (or_fault x y)
+or_fault_fits : (x y : Option Refusal) → AllSome IsRefusal x → AllSome IsRefusal y → AllSome IsRefusal (or_fault x y)
 or_fault_fits (Some why) y a b = a
 or_fault_fits None y a b = b
 
 -- a fault where a test holds
-fault_if_fits : (t : Bool) (why : Refusal) → RefusalFits why → AllSome RefusalFits (fault_if t why)
+fault_if_fits : (t : Bool) (why : Refusal) → IsRefusal why → AllSome IsRefusal (fault_if t why)
 fault_if_fits true why is = is
 fault_if_fits false why is = tt
 
 -- why a call that sends an entry is refused
-send_fault_fits : (r e : ℕ) (w : LogNow) (due : Bool) → LogFits r e w → AllSome RefusalFits (send_fault w due)
+send_fault_fits : (r e : ℕ) (w : LogNow) (due : Bool) → LogFits r e w → AllSome IsRefusal (send_fault w due)
 send_fault_fits r e w due fit =
     or_fault_fits (writer_fault (is_closing w.mode) (fenced_at w)) (fault_if (due && is_window_full w) refused.WindowFull)
     (writer_fault_fits (is_closing w.mode) (fenced_at w) fit.fenced) (fault_if_fits (due && is_window_full w) refused.WindowFull tt)
 
 -- why a record is refused
-take_fault_fits : (r e : ℕ) (w : LogNow) (size txid : ℕ) → size ≤ most_u64 → IsTxid txid → LogFits r e w → AllSome RefusalFits (take_fault w size txid)
+take_fault_fits : (r e : ℕ) (w : LogNow) (size txid : ℕ) → size ≤ most_u64 → IsTxid txid → LogFits r e w → AllSome IsRefusal (take_fault w size txid)
 take_fault_fits r e w size txid small id fit =
     let long : Option Refusal = fault_if (nat_lt longest_payload size) (refused.TooLong size) in
     let back : Option Refusal = fault_if (nat_lt txid w.last_taken) (refused.TxidBack w.last_taken txid) in
@@ -355,11 +366,13 @@ pending_length o txid [] = refl
 pending_length o txid (p ∷ ps) = ap suc (pending_length (record o { call = o.call + 1 }) txid ps)
 
 -- records are taken behind what is sent first
-behind_fit : (r e k : ℕ) (m : LogMove) (txid : ℕ) (part : ℕ → Stored) (ps : List Pending) → length ps ≤ k → AllByRecursion IsPending ps → IsTxid txid
+behind_fit : (r e k : ℕ) (m : LogMove) (txid : ℕ) (part : ℕ → Stored) (ps : List Pending) → ((position : ℕ) → StoredFits (part position))
+    → length ps ≤ k → AllByRecursion IsPending ps → IsTxid txid
     → LogMoveFits r e m → LogMoveFits (r + k) e (takes_behind m txid part ps)
-behind_fit r e k m txid part ps few each id fit = record {
+behind_fit r e k m txid part ps stored few each id fit = record {
   now = record {
     segment = fit.now.segment;
+    parts = all-last StoredFits m.now.parts (part (log.next_position m.now)) fit.now.parts (stored (log.next_position m.now));
     pending = all-append IsPending m.now.pending ps fit.now.pending each;
     few = omega (arith, length-append m.now.pending ps, fit.now.few, few);
     rows = fit.now.rows;
@@ -389,6 +402,7 @@ heard_fit r e w b m from fit =
     record {
       now = record {
         segment = fit.segment;
+        parts = fit.parts;
         pending = fit.pending;
         few = fit.few;
         rows = fit.rows;
@@ -405,9 +419,9 @@ heard_fit r e w b m from fit =
     }
 
 -- a message of a bookie
-pub hears_fit : (r e : ℕ) (w : LogNow) (b : ℕ) (m : Msg) → IsBookie b → LogFits r e w → LogMoveFits r e (log_hears w b m)
+pub hears_fit : (r e : ℕ) (w : LogNow) (b : ℕ) (m : Msg) → e ≤ most_u64 → IsBookie b → LogFits r e w → LogMoveFits r e (log_hears w b m)
 unfolding log_hears
-hears_fit r e w b m from fit = then_fit r e (heard_by w b m) (heard_fit r e w b m from fit)
+hears_fit r e w b m k from fit = then_fit r e (heard_by w b m) k (heard_fit r e w b m from fit)
 
 -- The records of an append or of a set, where the last of their numbers has 32 bits.
 pub record IsTaken (o : Origin) (txid : ℕ) (payloads : List (List ℕ)) : Type 0 where
@@ -419,12 +433,13 @@ pub record IsTaken (o : Origin) (txid : ℕ) (payloads : List (List ℕ)) : Type
   pub size : set_size payloads ≤ most_u64
 
 -- records that are taken behind room that is made
-taken_fit : (r e size : ℕ) (w : LogNow) (o : Origin) (txid : ℕ) (payloads : List (List ℕ)) (part : ℕ → Stored) → r ≤ most_u32 → suc e ≤ most_u64
+taken_fit : (r e size : ℕ) (w : LogNow) (o : Origin) (txid : ℕ) (payloads : List (List ℕ)) (part : ℕ → Stored) → ((position : ℕ) → StoredFits (part position))
+    → r ≤ most_u32 → suc e ≤ most_u64
     → IsTaken o txid payloads → LogFits r e w
     → LogMoveFits (r + set_most) (suc (suc e)) (takes_behind (makes_room w size) txid part (pending_from o txid payloads))
-taken_fit r e size w o txid payloads part h k is fit =
+taken_fit r e size w o txid payloads part stored h k is fit =
     move_more (r + set_most) (r + set_most) (suc e) (suc (suc e)) _ (omega arith) (omega arith)
-    (behind_fit r (suc e) set_most (makes_room w size) txid part (pending_from o txid payloads)
+    (behind_fit r (suc e) set_most (makes_room w size) txid part (pending_from o txid payloads) stored
     (omega (arith, is.few, pending_length o txid payloads)) (pending_fit o txid payloads is.client is.id is.calls is.bytes) is.id
     (room_fit r e size w h (omega (arith, k)) fit))
 
@@ -435,7 +450,7 @@ unfolding appends
 appends_fit r e w o txid payload h k is fit =
     unless_fit (r + set_most) (suc (suc e)) (take_fault w (length payload) txid) _
     (take_fault_fits r e w (length payload) txid (omega (arith, is.size)) is.id fit)
-    (taken_fit r e (length payload) w o txid (payload ∷ []) (λ position. Plain position txid payload) h k is fit)
+    (taken_fit r e (length payload) w o txid (payload ∷ []) (λ position. Plain position txid payload) (λ position. is.bytes.0) h k is fit)
 
 -- a set of records
 pub sets_fit : (r e : ℕ) (w : LogNow) (o : Origin) (txid : ℕ) (payloads : List (List ℕ)) → r ≤ most_u32 → suc e ≤ most_u64
@@ -443,7 +458,7 @@ pub sets_fit : (r e : ℕ) (w : LogNow) (o : Origin) (txid : ℕ) (payloads : Li
 unfolding appends_set
 sets_fit r e w o txid payloads h k is fit =
     unless_fit (r + set_most) (suc (suc e)) (take_fault w (set_size payloads) txid) _ (take_fault_fits r e w (set_size payloads) txid is.size is.id fit)
-    (taken_fit r e (set_size payloads) w o txid payloads (λ position. Set position txid payloads) h k is fit)
+    (taken_fit r e (set_size payloads) w o txid payloads (λ position. Set position txid payloads) (λ position. is.bytes) h k is fit)
 
 -- what is under way is sent in another mode
 sent_fit : (r e : ℕ) (w : LogNow) (mode : LogMode) → due mode ≤ 1 → ControlUpTo (suc e) mode → r ≤ most_u32 → suc e ≤ most_u64
@@ -465,6 +480,7 @@ due_most Closable = omega arith
 kept_fit : (r e : ℕ) (w : LogNow) → LogFits r e w → LogFits r e (in_mode (past_commit w.mode) w)
 kept_fit r e w fit = record {
   segment = fit.segment;
+  parts = fit.parts;
   pending = fit.pending;
   few = fit.few;
   rows = fit.rows;
@@ -485,18 +501,20 @@ flush_fit r e w h k fit =
     (flushes_fit r e (in_mode (past_commit w.mode) w) h (omega (arith, k)) (kept_fit r e w fit)))
 
 -- a commit
-pub commit_fit : (r e : ℕ) (w : LogNow) → r ≤ most_u32 → suc e ≤ most_u64 → LogFits r e w → CallFits (r + set_most) (suc (suc e)) (commits w)
+pub commit_fit : (r e : ℕ) (w : LogNow) → r ≤ most_u32 → suc (suc e) ≤ most_u64 → LogFits r e w → CallFits (r + set_most) (suc (suc e)) (commits w)
 unfolding commits
-commit_fit r e w h k fit =
+commit_fit r e w h room fit =
+    let k : suc e ≤ most_u64 = omega (arith, room) in
     unless_fit (r + set_most) (suc (suc e)) (send_fault w (has_parts w)) _ (send_fault_fits r e w (has_parts w) fit)
-    (then_fit (r + set_most) (suc (suc e)) (flushes (in_mode (Committing None) w)) (sent_fit r e w (Committing None) (omega arith) tt h k fit))
+    (then_fit (r + set_most) (suc (suc e)) (flushes (in_mode (Committing None) w)) room (sent_fit r e w (Committing None) (omega arith) tt h k fit))
 
 -- a close
-pub close_fit : (r e : ℕ) (w : LogNow) → r ≤ most_u32 → suc e ≤ most_u64 → LogFits r e w → CallFits (r + set_most) (suc (suc e)) (closes w)
+pub close_fit : (r e : ℕ) (w : LogNow) → r ≤ most_u32 → suc (suc e) ≤ most_u64 → LogFits r e w → CallFits (r + set_most) (suc (suc e)) (closes w)
 unfolding closes
-close_fit r e w h k fit =
+close_fit r e w h room fit =
+    let k : suc e ≤ most_u64 = omega (arith, room) in
     unless_fit (r + set_most) (suc (suc e)) (send_fault w (has_parts w)) _ (send_fault_fits r e w (has_parts w) fit)
-    (then_fit (r + set_most) (suc (suc e)) (flushes (in_mode Closing w)) (sent_fit r e w Closing (omega arith) tt h k fit))
+    (then_fit (r + set_most) (suc (suc e)) (flushes (in_mode Closing w)) room (sent_fit r e w Closing (omega arith) tt h k fit))
 
 -- a call leaves what it says, or the writer as it was
 same_fit : (r e : ℕ) (w : LogNow) (result : Result LogMove Refusal) → LogFits r e w → CallFits (r + set_most) (suc (suc e)) result
@@ -514,28 +532,30 @@ IsCall Closes = Unit {0}
 IsCall (HearsFrom b m) = IsBookie b
 
 -- a writer after a call
-pub called_fit : (r e : ℕ) (w : LogNow) (call : LogCall) → r ≤ most_u32 → suc e ≤ most_u64 → IsCall call → LogFits r e w
+pub called_fit : (r e : ℕ) (w : LogNow) (call : LogCall) → r ≤ most_u32 → suc (suc e) ≤ most_u64 → IsCall call → LogFits r e w
     → LogFits (r + set_most) (suc (suc e)) (after_log_call w call)
 unfolding after_log_call
-called_fit r e w (Appends o txid payload) h k is fit = same_fit r e w (appends w o txid payload) fit (appends_fit r e w o txid payload h k is fit)
+called_fit r e w (Appends o txid payload) h k is fit =
+    same_fit r e w (appends w o txid payload) fit (appends_fit r e w o txid payload h (omega (arith, k)) is fit)
 called_fit r e w (AppendsSet o txid payloads) h k is fit =
-    same_fit r e w (appends_set w o txid payloads) fit (sets_fit r e w o txid payloads h k is fit)
-called_fit r e w Flushes h k is fit = same_fit r e w (log_flushes w) fit (flush_fit r e w h k fit)
+    same_fit r e w (appends_set w o txid payloads) fit (sets_fit r e w o txid payloads h (omega (arith, k)) is fit)
+called_fit r e w Flushes h k is fit = same_fit r e w (log_flushes w) fit (flush_fit r e w h (omega (arith, k)) fit)
 called_fit r e w Commits h k is fit = same_fit r e w (commits w) fit (commit_fit r e w h k fit)
 called_fit r e w Closes h k is fit = same_fit r e w (closes w) fit (close_fit r e w h k fit)
 called_fit r e w (HearsFrom b m) h k is fit =
-    log_more r (r + set_most) e (suc (suc e)) _ (omega arith) (omega arith) (hears_fit r e w b m is fit).now
+    log_more r (r + set_most) e (suc (suc e)) _ (omega arith) (omega arith) (hears_fit r e w b m (omega (arith, k)) is fit).now
 
 -- a writer after a message of a bookie
-pub told_fit : (r e : ℕ) (w : LogNow) (b : ℕ) (m : Msg) → IsBookie b → LogFits r e w → LogFits r e (after_log_call w (HearsFrom b m))
+pub told_fit : (r e : ℕ) (w : LogNow) (b : ℕ) (m : Msg) → e ≤ most_u64 → IsBookie b → LogFits r e w → LogFits r e (after_log_call w (HearsFrom b m))
 unfolding after_log_call
-told_fit r e w b m from fit = (hears_fit r e w b m from fit).now
+told_fit r e w b m k from fit = (hears_fit r e w b m k from fit).now
 
 -- a writer that was given no call yet
 pub started_fit : (r e : ℕ) (x : LogArgs) → IsU64 x.segment → IsTxid x.last
     → ((entry : ℕ) → AllByRecursion IsBookie (members x.pieces entry)) → LogFits r e (log_started x)
 started_fit r e x is id members = record {
   segment = is;
+  parts = tt;
   pending = tt;
   few = omega arith;
   rows = tt;

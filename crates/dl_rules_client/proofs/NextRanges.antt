@@ -1,8 +1,16 @@
--- What an order that is done hands on, also through the parts of an order.
+-- What an order hears, and what one that is done hands on, also through the parts of an order.
 use Rattle.std.proofs.Common.{Result, Ok, Err}
 use Rattle.dl_types.specs.declared.refusal.Refusal.{Refusal}
+use Rattle.dl_msg.specs.declared.heard.Heard.{Heard}
+use Rattle.dl_msg.specs.declared.heard.Heard.TheVariants.{Reply, From}
+use Rattle.dl_rules_client.specs.EventRanges.{AnswerFits, MsgFits}
 use Rattle.dl_rules_client.proofs.RangeLists.{Any, AllOk}
 use Rattle.dl_rules_stream.specs.Orders.{Next, Wait, Ask, Tell, Done, Refused, within, or_refused}
+
+-- what an order hears fits
+abbrev pub HeardFits : Heard → Type 0
+HeardFits (Reply a) = AnswerFits a
+HeardFits (From b m) = MsgFits m
 
 -- what an order that is done hands on
 abbrev pub NextFits : {A : Type 0} → (A → Type 0) → Next A → Type 0

@@ -10,6 +10,10 @@ use Rattle.dl_fields.specs.declared.fault.Fault.{Fault}
 use Rattle.dl_fields.specs.Readers.{◌>>=◌, then_at, map_at, field_with_test, whole_field}
 use Rattle.dl_fields.specs.Fields.{number_from}
 use Rattle.dl_fields.proofs.ReaderLemmas.{bind_ok, ok_is}
+use Rattle.dl_codec.specs.Fields.{IsBytes}
+use Rattle.dl_text.specs.PlaceFields.{IsPlaceFrom}
+use Rattle.dl_formats.proofs.DecodeLemmas.{node_found}
+use Rattle.dl_formats.proofs.Exactness.{cut_exact}
 use Rattle.dl_formats.specs.declared.conf.Conf.{Conf}
 use Rattle.dl_formats.specs.declared.fault.MetaBytesFault.{MetaBytesFault}
 use Rattle.dl_formats.specs.declared.ledger.LedgerState.{LedgerState}
@@ -20,7 +24,7 @@ use Rattle.dl_formats.specs.declared.segment_name.SegmentName.{SegmentName}
 use Rattle.dl_formats.specs.declared.segment_name.SegmentName.TheVariants.{Progress, Completed}
 use Rattle.dl_formats.specs.NodeBytes.{ten_nines, max_u64, most_count}
 use Rattle.dl_formats.specs.Reading.{between_from, node_fields_from, node_from, with_place, state_from, ledger_of, ledger_from, ledger_at, in_progress_from}
-use Rattle.dl_formats.specs.Reading.{completed_from, kind_from, segment_from, segment_at, maxseq_of, maxseq_from, maxseq_at}
+use Rattle.dl_formats.specs.Reading.{completed_from, kind_from, segment_from, segment_at, maxseq_of, maxseq_from, maxseq_at, cut_at}
 use Rattle.dl_formats.specs.declared.maxseq.MaxSeq.{MaxSeq}
 use Rattle.dl_types.specs.declared.txid.TheConstants.{MAX_TXID}
 use Rattle.dl_schedule.specs.StepLines.{IsTxid}
@@ -133,10 +137,10 @@ fields_fit bytes = place_such (length bytes) (node_from ledger_from bytes) (λ f
 
 -- ---- segments
 
--- a segment in progress has at most ten digits
+-- a segment has at most ten digits
 abbrev pub SegmentFits : SegmentMeta → Type 0
 SegmentFits (meta.InProgress segment ledger) = segment ≤ ten_nines
-SegmentFits (meta.Completed segment ledger entries rows last) = Unit {0}
+SegmentFits (meta.Completed segment ledger entries rows last) = segment ≤ ten_nines
 
 -- the fields of a segment in progress
 progress_such : ReadsSuch in_progress_from SegmentFits
@@ -147,7 +151,8 @@ progress_such =
 -- those of a completed one
 completed_such : ReadsSuch completed_from SegmentFits
 completed_such =
-    map_such (λ (x : ℕ × (ℕ × (ℕ × (ℕ × ℕ)))). meta.Completed x.0 x.1.0 x.1.1.0 x.1.1.1.0 x.1.1.1.1) _ SegmentFits (λ bytes a rest read. tt)
+    map_such (λ (x : ℕ × (ℕ × (ℕ × (ℕ × ℕ)))). meta.Completed x.0 x.1.0 x.1.1.0 x.1.1.1.0 x.1.1.1.1) _ SegmentFits
+    (first_such (between_from w64 1 ten_nines) _ (λ n. n ≤ ten_nines) (between_such w64 1 ten_nines))
 
 -- the fields of a segment
 kind_such : (kind : ℕ) → ReadsSuch (kind_from kind) SegmentFits
@@ -186,6 +191,19 @@ maxseq_such =
 -- the `maxseq` in a node
 pub maxseq_fits : (bytes : List ℕ) → AllOk (maxseq_at bytes) MaxSeqFits
 maxseq_fits bytes = place_such (length bytes) (node_from maxseq_from bytes) MaxSeqFits (node_such maxseq_from MaxSeqFits maxseq_such bytes)
+
+-- ---- `cut`
+
+-- what holds of each value that a reading may have
+ok_such : {A E : Type 0} (r : Result A E) (P : A → Type 0) → ((a : A) → r ≡ Ok a → P a) → AllOk r P
+ok_such (Ok a) P h = h a refl
+ok_such (Err e) P h = tt
+
+-- the point in a node is a place of a segment, where the node's bytes are bytes
+pub cut_fits : (bytes : List ℕ) → IsBytes bytes → AllOk (cut_at bytes) (λ c. IsPlaceFrom 1 c.point)
+cut_fits bytes are = ok_such (cut_at bytes) (λ c. IsPlaceFrom 1 c.point) (λ c read.
+    let its = (node_found cut_exact bytes c are read).0 in
+    ((its.0.least, its.0.most), ((omega arith, omega (arith, its.1.0)), (omega arith, omega (arith, its.1.1)))))
 
 -- ---- names
 
@@ -244,7 +262,7 @@ in_fits [] = tt
 in_fits (letter ∷ digits) = by_fits letter (ten_digits_in digits) (ten_fits digits)
 
 -- a value as a list
-option_all : {A : Type 0} (P : A → Type 0) (x : Option A) → AllSome P x → AllByRecursion P (option_to_list x)
+pub option_all : {A : Type 0} (P : A → Type 0) (x : Option A) → AllSome P x → AllByRecursion P (option_to_list x)
 option_all P None h = tt
 option_all P (Some x) h = (h, tt)
 

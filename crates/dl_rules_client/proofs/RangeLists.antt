@@ -1,7 +1,8 @@
 -- What holds of each item of a list, or of a value where there is one.
-use Rattle.std.proofs.Common.{ℕ, zero, suc, Bool, true, false, cond, List, [], ◌∷◌, ◌++◌, take, drop, map, Option, Some, None, Result, Ok, Err}
+use Rattle.std.proofs.Common.{ℕ, zero, suc, Bool, true, false, cond, List, [], ◌∷◌, ◌++◌, take, drop, map, Result, Ok, Err}
 use Rattle.std.specs.Prelude.{slice_get}
 use Rattle.std.specs.List.{AllByRecursion, flat_map}
+pub use Rattle.dl_rules_client.specs.EventRanges.{AllSome}
 
 -- what holds of both sides of a test holds of it
 pub cond_both : {A : Type 0} (P : A → Type 0) (t : Bool) (x y : A) → P x → P y → P (cond t x y)
@@ -11,11 +12,6 @@ cond_both P false x y h k = k
 -- nothing is asked of a value
 abbrev pub Any : {A : Type 0} → A → Type 0
 Any a = Unit {0}
-
--- it holds of the value, where there is one
-abbrev pub AllSome : {A : Type 0} → (A → Type 0) → Option A → Type 0
-AllSome P None = Unit {0}
-AllSome P (Some x) = P x
 
 -- it holds of the value, where there is no error
 abbrev pub AllOk : {A E : Type 0} → Result A E → (A → Type 0) → Type 0

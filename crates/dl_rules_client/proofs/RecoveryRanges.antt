@@ -37,11 +37,15 @@ use Rattle.dl_rules_stream.specs.Locks.{LockStage, MakingMember, ListingMembers,
 use Rattle.dl_rules_stream.specs.Locks.{lock_answers, lock_hears}
 use Rattle.dl_rules_stream.specs.Looks.{Looked, LookStage, Looking, LookDone, look_values, look_answers, look_hears}
 use Rattle.dl_rules_stream.specs.SegmentRecoveries.{SegmentArgs, SegmentStage, GettingSegment, RecoveringLedger, FetchingEnd, Completing, CheckingSegment}
-use Rattle.dl_rules_stream.specs.SegmentRecoveries.{SegmentDone, Recovered, ClosedAt, Again, ledger_args, end_subject, is_completed}
+use Rattle.dl_rules_stream.specs.SegmentRecoveries.{SegmentDone, Recovered, ClosedAt, Again, ledger_args, end_subject, completes, is_completed}
 use Rattle.dl_rules_stream.specs.SegmentRecoveries.{after_end, after_closed, after_ledger, after_segment, not_completed, segment_answers}
 use Rattle.dl_rules_stream.specs.SegmentRecoveries.{segment_told, segment_hears, recovered_by}
+use Rattle.dl_fields.specs.Paths.{IsPathField}
+use Rattle.dl_text.specs.NameFields.{IsName}
+use Rattle.dl_schedule.specs.StepLines.{IsCount}
+use Rattle.dl_rules_client.specs.EventRanges.{AnswerFits}
 use Rattle.dl_rules_client.proofs.RangeLists.{Any, AllOk, AllSome, cond_both}
-use Rattle.dl_rules_client.proofs.NextRanges.{NextFits, any_next, PairFits, within_such, refused_such}
+use Rattle.dl_rules_client.proofs.NextRanges.{HeardFits, NextFits, any_next, PairFits, within_such, refused_such}
 use Rattle.dl_rules_client.proofs.NodeRanges.{NameFits, LedgerFits, MaxSeqFits, refusal_such, gave_up_such}
 use Rattle.dl_rules_client.proofs.NodeRanges.{any_ok, ok_map, ledger_fits, segments_fit, maxseq_fits, ten_fits}
 use Rattle.dl_formats.specs.Keys.{MaxSeq, path_of}
@@ -81,11 +85,11 @@ look_fits s stage (From b m) = (tt, tt)
 
 -- ---- locks
 
--- the least number of a lock's members, where that isn't the own one, has at most ten digits
+-- the own member has a path, and the least number of a lock's members, where that isn't the own one, has at most ten digits
 abbrev pub LockStageFits : LockStage → Type 0
 LockStageFits MakingMember = Unit {0}
-LockStageFits (ListingMembers member) = Unit {0}
-LockStageFits (LeavingLock member least) = least ≤ ten_nines
+LockStageFits (ListingMembers member) = IsPathField member
+LockStageFits (LeavingLock member least) = IsPathField member × (least ≤ ten_nines)
 LockStageFits LockDone = Unit {0}
 
 -- the number of a member
@@ -111,32 +115,34 @@ least_fits top n [] h = h
 least_fits top n (name ∷ names) h = least_fits top (least_with n (member_in name)) names (with_fits top n (member_in name) (member_fits name) h)
 
 -- a lock that is settled
-settled_fits : (member : List ℕ) (least : ℕ) → FewBelow (number_behind member) least → PairFits LockStageFits Any (lock_or_leave member least)
-settled_fits member least h = go (nat_lt least (number_behind member)) refl
+settled_fits : (member : List ℕ) (least : ℕ) → IsPathField member → FewBelow (number_behind member) least
+    → PairFits LockStageFits IsPathField (lock_or_leave member least)
+settled_fits member least is h = go (nat_lt least (number_behind member)) refl
   where
     go : (t : Bool) → nat_lt least (number_behind member) ≡ t
-        → PairFits LockStageFits Any (cond t (LeavingLock member least, Ask (LeaveLock member)) (LockDone, Done member))
-    go true e = (h (leb-true (suc least) (number_behind member) e), tt)
-    go false e = (tt, tt)
+        → PairFits LockStageFits IsPathField (cond t (LeavingLock member least, Ask (LeaveLock member)) (LockDone, Done member))
+    go true e = ((is, h (leb-true (suc least) (number_behind member) e)), tt)
+    go false e = (tt, is)
 
 -- what the taking of a lock does at an answer
-lock_answers_fit : (s : List ℕ) (stage : LockStage) (a : MetaAnswer) → LockStageFits stage → PairFits LockStageFits Any (lock_answers s stage a)
+lock_answers_fit : (s : List ℕ) (stage : LockStage) (a : MetaAnswer) → LockStageFits stage → AnswerFits a
+    → PairFits LockStageFits IsPathField (lock_answers s stage a)
 unfolding lock_answers
-lock_answers_fit s MakingMember (answer.One (Made path)) is = (tt, tt)
-lock_answers_fit s MakingMember (answer.Failed place NoNode) is = (tt, tt)
-lock_answers_fit s MakingMember (answer.Failed place w) is = (tt, tt)
-lock_answers_fit s (ListingMembers member) (answer.One (Names names)) is =
-    settled_fits member (least_of (number_behind member) names)
+lock_answers_fit s MakingMember (answer.One (Made path)) is fit = (fit, tt)
+lock_answers_fit s MakingMember (answer.Failed place NoNode) is fit = (tt, tt)
+lock_answers_fit s MakingMember (answer.Failed place w) is fit = (tt, tt)
+lock_answers_fit s (ListingMembers member) (answer.One (Names names)) is fit =
+    settled_fits member (least_of (number_behind member) names) is
     (least_fits (number_behind member) (number_behind member) names (λ below. absurd (omega (arith, below))))
-lock_answers_fit s (ListingMembers member) (answer.Failed place w) is = (tt, tt)
-lock_answers_fit s (LeavingLock member least) (answer.Failed place w) is = (tt, tt)
-lock_answers_fit s (LeavingLock member least) a is = (tt, tt)
-lock_answers_fit s stage a is = (is, tt)
+lock_answers_fit s (ListingMembers member) (answer.Failed place w) is fit = (tt, tt)
+lock_answers_fit s (LeavingLock member least) (answer.Failed place w) is fit = (tt, tt)
+lock_answers_fit s (LeavingLock member least) a is fit = (tt, tt)
+lock_answers_fit s stage a is fit = (is, tt)
 
 -- what the taking of a lock does at what it hears
-pub lock_fits : (s : List ℕ) (stage : LockStage) (h : Heard) → LockStageFits stage → PairFits LockStageFits Any (lock_hears s stage h)
-lock_fits s stage (Reply a) is = lock_answers_fit s stage a is
-lock_fits s stage (From b m) is = (is, tt)
+pub lock_fits : (s : List ℕ) (stage : LockStage) (h : Heard) → LockStageFits stage → HeardFits h → PairFits LockStageFits IsPathField (lock_hears s stage h)
+lock_fits s stage (Reply a) is fit = lock_answers_fit s stage a is fit
+lock_fits s stage (From b m) is fit = (is, tt)
 
 -- ---- ledgers
 
@@ -239,12 +245,26 @@ recovery_fits x stage (From b m) is = recovery_told_fits x stage b m is
 
 -- ---- segments
 
+-- What the recovery of a segment is started with: its number has at most ten digits, there are 1 to 16 storage nodes, the stream is a
+-- name, and the member, where there is one, has a path.
+pub record SegmentArgsFit (x : SegmentArgs) : Type 0 where
+  pub segment : x.segment ≤ ten_nines
+  pub count : IsCount x.conf.b
+  pub stream : IsName x.stream
+  pub member : AllSome IsPathField x.member
+
+-- A completion of a stream, with a count of 64 bits.
+pub record CompletionFits (c : Completion) : Type 0 where
+  pub entries : c.entries ≤ max_u64
+  pub stream : IsName c.stream
+  pub member : AllSome IsPathField c.member
+
 -- the recovery of a segment
 abbrev pub SegmentStageFits : SegmentStage → Type 0
 SegmentStageFits GettingSegment = Unit {0}
 SegmentStageFits (RecoveringLedger ledger stage) = RecoveryFits stage
 SegmentStageFits (FetchingEnd ledger m stage) = LedgerFits m
-SegmentStageFits (Completing c) = c.entries ≤ max_u64
+SegmentStageFits (Completing c) = CompletionFits c
 SegmentStageFits (CheckingSegment ledger) = Unit {0}
 SegmentStageFits SegmentDone = Unit {0}
 
@@ -262,21 +282,28 @@ tells_fit : {A : Type 0} (P : A → Type 0) (letters : List Told) → NextFits P
 tells_fit P [] = tt
 tells_fit P (t ∷ ts) = tt
 
+-- a completion of the segment
+completes_fit : (x : SegmentArgs) (ledger entries rows last : ℕ) → SegmentArgsFit x → entries ≤ max_u64 → SegmentMove (completes x ledger entries rows last)
+completes_fit x ledger entries rows last args is = (record { entries = is; stream = args.stream; member = args.member }, tt)
+
 -- behind the last entry
-after_end_fits : (x : SegmentArgs) (ledger : ℕ) (m : LedgerNode) (stage : ReaderStage) → LedgerFits m → SegmentMove (after_end x ledger m stage)
-after_end_fits x ledger m (Fetched bytes) is = (is, tt)
-after_end_fits x ledger m stage is = (is, tt)
+after_end_fits : (x : SegmentArgs) (ledger : ℕ) (m : LedgerNode) (stage : ReaderStage) → SegmentArgsFit x → LedgerFits m
+    → SegmentMove (after_end x ledger m stage)
+after_end_fits x ledger m (Fetched bytes) args is = completes_fit x ledger m.count _ _ args is
+after_end_fits x ledger m stage args is = (is, tt)
 
 -- behind a closed ledger
-after_closed_fits : (x : SegmentArgs) (ledger : ℕ) (m : LedgerNode) (count : ℕ) → LedgerFits m → SegmentMove (after_closed x ledger m count)
-after_closed_fits x ledger m zero is = (omega arith, tt)
-after_closed_fits x ledger m (suc last) is = (is, tells_fit RecoveredFits (asks_entry (end_subject x ledger m) last))
+after_closed_fits : (x : SegmentArgs) (ledger : ℕ) (m : LedgerNode) (count : ℕ) → SegmentArgsFit x → LedgerFits m
+    → SegmentMove (after_closed x ledger m count)
+after_closed_fits x ledger m zero args is = completes_fit x ledger 0 0 x.maxseq.last args (omega arith)
+after_closed_fits x ledger m (suc last) args is = (is, tells_fit RecoveredFits (asks_entry (end_subject x ledger m) last))
 
 -- behind the recovery of the ledger
-after_ledger_fits : (x : SegmentArgs) (ledger : ℕ) (move : RecoveryStage × Next ℕ) → LedgerMove move → SegmentMove (after_ledger x ledger move)
-after_ledger_fits x ledger (IsGone last, next) is = (tt, tt)
-after_ledger_fits x ledger (IsClosed m, next) is = after_closed_fits x ledger m m.count is.0
-after_ledger_fits x ledger (stage, next) is =
+after_ledger_fits : (x : SegmentArgs) (ledger : ℕ) (move : RecoveryStage × Next ℕ) → SegmentArgsFit x → LedgerMove move
+    → SegmentMove (after_ledger x ledger move)
+after_ledger_fits x ledger (IsGone last, next) args is = (tt, tt)
+after_ledger_fits x ledger (IsClosed m, next) args is = after_closed_fits x ledger m m.count args is.0
+after_ledger_fits x ledger (stage, next) args is =
     within_such RecoveryFits Any SegmentStageFits RecoveredFits (RecoveringLedger ledger) SegmentDone (λ n. (SegmentDone, Wait)) (stage, next)
     (λ s fit. fit) tt (λ n u. (tt, tt)) is
 
@@ -285,35 +312,37 @@ not_completed_fits : (c : Completion) (at : ℕ) (w : Why) → c.entries ≤ max
 not_completed_fits c at w is = cond_both SegmentMove (is_completed c.member at w) (SegmentDone, Done (ClosedAt c.entries)) _ (tt, is) (tt, tt)
 
 -- what it does at an answer
-segment_answers_fit : (x : SegmentArgs) (stage : SegmentStage) (a : MetaAnswer) → SegmentStageFits stage → SegmentMove (segment_answers x stage a)
+segment_answers_fit : (x : SegmentArgs) (stage : SegmentStage) (a : MetaAnswer) → SegmentArgsFit x → SegmentStageFits stage
+    → SegmentMove (segment_answers x stage a)
 unfolding segment_answers
-segment_answers_fit x GettingSegment (answer.One (Bytes bytes version)) is =
+segment_answers_fit x GettingSegment (answer.One (Bytes bytes version)) args is =
     refused_such SegmentStageFits RecoveredFits SegmentDone (after_segment x) (segment_of x.stream (Progress x.segment) bytes) tt
     (ok_map (segment_of x.stream (Progress x.segment) bytes) Any (λ m. SegmentMove (after_segment x m))
     (any_ok (segment_of x.stream (Progress x.segment) bytes))
-    (λ m u. after_ledger_fits x (ledger_of m) (recovery_first (ledger_args x (ledger_of m))) (tt, tt)))
-segment_answers_fit x GettingSegment (answer.Failed at NoNode) is = (tt, tt)
-segment_answers_fit x GettingSegment (answer.Failed at w) is = (tt, tt)
-segment_answers_fit x (RecoveringLedger ledger stage) a is =
-    after_ledger_fits x ledger (recovery_hears (ledger_args x ledger) stage (Reply a)) (recovery_fits (ledger_args x ledger) stage (Reply a) is)
-segment_answers_fit x (Completing c) (answer.Failed at w) is = not_completed_fits c at w is
-segment_answers_fit x (Completing c) a is = (tt, is)
-segment_answers_fit x (CheckingSegment ledger) (answer.Failed at NoNode) is = (tt, tt)
-segment_answers_fit x (CheckingSegment ledger) a is = (tt, tt)
-segment_answers_fit x stage a is = (is, tt)
+    (λ m u. after_ledger_fits x (ledger_of m) (recovery_first (ledger_args x (ledger_of m))) args (tt, tt)))
+segment_answers_fit x GettingSegment (answer.Failed at NoNode) args is = (tt, tt)
+segment_answers_fit x GettingSegment (answer.Failed at w) args is = (tt, tt)
+segment_answers_fit x (RecoveringLedger ledger stage) a args is =
+    after_ledger_fits x ledger (recovery_hears (ledger_args x ledger) stage (Reply a)) args (recovery_fits (ledger_args x ledger) stage (Reply a) is)
+segment_answers_fit x (Completing c) (answer.Failed at w) args is = not_completed_fits c at w is.entries
+segment_answers_fit x (Completing c) a args is = (tt, is.entries)
+segment_answers_fit x (CheckingSegment ledger) (answer.Failed at NoNode) args is = (tt, tt)
+segment_answers_fit x (CheckingSegment ledger) a args is = (tt, tt)
+segment_answers_fit x stage a args is = (is, tt)
 
 -- what it does at a message of a bookie
-segment_told_fits : (x : SegmentArgs) (stage : SegmentStage) (b : ℕ) (m : Msg) → SegmentStageFits stage → SegmentMove (segment_told x stage b m)
-segment_told_fits x (RecoveringLedger ledger stage) b m is =
-    after_ledger_fits x ledger (recovery_hears (ledger_args x ledger) stage (From b m)) (recovery_fits (ledger_args x ledger) stage (From b m) is)
-segment_told_fits x (FetchingEnd ledger node stage) b m is = after_end_fits x ledger node (hears (end_subject x ledger node) stage b m) is
-segment_told_fits x stage b m is = (is, tt)
+segment_told_fits : (x : SegmentArgs) (stage : SegmentStage) (b : ℕ) (m : Msg) → SegmentArgsFit x → SegmentStageFits stage
+    → SegmentMove (segment_told x stage b m)
+segment_told_fits x (RecoveringLedger ledger stage) b m args is =
+    after_ledger_fits x ledger (recovery_hears (ledger_args x ledger) stage (From b m)) args (recovery_fits (ledger_args x ledger) stage (From b m) is)
+segment_told_fits x (FetchingEnd ledger node stage) b m args is = after_end_fits x ledger node (hears (end_subject x ledger node) stage b m) args is
+segment_told_fits x stage b m args is = (is, tt)
 
 -- what it does at what it hears
-pub segment_fits : (x : SegmentArgs) (stage : SegmentStage) (h : Heard) → SegmentStageFits stage → SegmentMove (segment_hears x stage h)
+pub segment_fits : (x : SegmentArgs) (stage : SegmentStage) (h : Heard) → SegmentArgsFit x → SegmentStageFits stage → SegmentMove (segment_hears x stage h)
 unfolding segment_hears
-segment_fits x stage (Reply a) is = segment_answers_fit x stage a is
-segment_fits x stage (From b m) is = segment_told_fits x stage b m is
+segment_fits x stage (Reply a) args is = segment_answers_fit x stage a args is
+segment_fits x stage (From b m) args is = segment_told_fits x stage b m args is
 
 -- the place at which a segment of at most ten digits ends
 pub end_place : (segment count : ℕ) → segment ≤ ten_nines → count ≤ max_u64 → IsPlaceFrom 0 (place segment count 0)

@@ -25,7 +25,9 @@ use Rattle.dl_rules_client.specs.Moves.{refusal_event, with_order}
 use Rattle.dl_rules_client.specs.Writing.{entry_between, entry_of, sent_events, ack_events, move_acts, took_events, refuses_call, takes}
 use Rattle.dl_rules_client.specs.Writing.{appends_one, appends_many, sends, flushes, close_args, begins_close, log_goes_on, order_goes_on, after_call}
 use Rattle.dl_rules_client.specs.Writing.{begins_on_log, begins_commit, begins_confirm, writer_hears}
-use Rattle.dl_rules_client.specs.EventRanges.{RefusalFits, FitsItsLine, ArgsFit, set_most}
+use Rattle.dl_transcript.specs.Ranges.{IsRefusal}
+use Rattle.dl_rules_client.specs.EventRanges.{ArgsFit, set_most}
+use Rattle.dl_transcript.specs.Ranges.{IsEvent}
 use Rattle.dl_rules_client.proofs.RangeLists.{Any, cond_both}
 use Rattle.dl_rules_client.proofs.RangeLists.{AllSome, all-append, all-map}
 use Rattle.dl_rules_client.proofs.NextRanges.{any_next}
@@ -33,26 +35,28 @@ use Rattle.dl_rules_client.proofs.LogRanges.{IsRow, LogFits, LogMoveFits, CallFi
 use Rattle.dl_rules_client.proofs.LogRanges.{sets_fit, flush_fit, commit_fit, close_fit, hears_fit, called_fit, told_fit, state_fit, last_entry_fit}
 use Rattle.dl_rules_client.proofs.ClientRanges.{each_letter_fits, DoingFits, OrderFits, WriterFits, NowFits, SentFits, ActsFit, MoveFits, now_more}
 use Rattle.dl_rules_client.proofs.ClientRanges.{stays_fits, refuses_fits, waits_fits, ends_fits, with_fits, goes_fits}
+use Rattle.dl_rules_client.proofs.TellRanges.{CloseArgsFit}
 
 -- ---- a writer behind a call
 
 -- a writer behind a call of a line
-call_fits : (n : ℕ) (w : WriterView) (call : LogCall) → set_most * n ≤ most_u32 → suc (2 * n) ≤ most_u64 → IsCall call → WriterFits n w
+call_fits : (n : ℕ) (w : WriterView) (call : LogCall) → set_most * n ≤ most_u32 → suc (suc (2 * n)) ≤ most_u64 → IsCall call → WriterFits n w
     → WriterFits (suc n) (with_call w call)
 unfolding log_of
 call_fits n w call h k is fit = record {
   stream = fit.stream;
   line = fit.line;
   segment = fit.segment;
+  member = fit.member;
   log = log_more (set_most * n + set_most) (set_most * suc n) (suc (suc (2 * n))) (2 * suc n) _ (omega arith) (omega arith)
       (called_fit (set_most * n) (2 * n) (log_now w) call h k is fit.log);
 }
 
 -- a writer behind a message of a bookie
-hears_fits : (n : ℕ) (w : WriterView) (b : ℕ) (m : Msg) → IsBookie b → WriterFits n w → WriterFits n (with_call w (HearsFrom b m))
+hears_fits : (n : ℕ) (w : WriterView) (b : ℕ) (m : Msg) → 2 * n ≤ most_u64 → IsBookie b → WriterFits n w → WriterFits n (with_call w (HearsFrom b m))
 unfolding log_of
-hears_fits n w b m from fit =
-    record { stream = fit.stream; line = fit.line; segment = fit.segment; log = told_fit (set_most * n) (2 * n) (log_now w) b m from fit.log }
+hears_fits n w b m k from fit =
+    record { stream = fit.stream; line = fit.line; segment = fit.segment; member = fit.member; log = told_fit (set_most * n) (2 * n) (log_now w) b m k from fit.log }
 
 -- a client with this writer
 writer_fits : (me : ClientArgs) (n k : ℕ) (now : ClientNow) (w : WriterView) → WriterFits n w → NowFits me n k now → NowFits me n k (with_writer now w)
@@ -67,7 +71,7 @@ entry_fits w (Some x) name fit = record { stream = name; rows = fit.rows }
 
 -- an entry that was sent, as an event
 sent_fits : (me : ClientArgs) (w : WriterView) (x : Option log.SentEntry) → IsClient me.number → IsU64 w.opened.segment → AllSome EntryFits x
-    → AllByRecursion FitsItsLine (sent_events me w x)
+    → AllByRecursion IsEvent (sent_events me w x)
 sent_fits me w None c is fit = tt
 sent_fits me w (Some x) c is fit = ((c, (is, fit.entry)), tt)
 
@@ -83,8 +87,8 @@ move_acts_fit me n k more r e w m c small fit move =
     let sent : Option log.SentEntry = entry_between (log_now w) m.now in
     let entry : AllSome EntryFits sent = between_fits r e (log_now w) m.now small move.now in
     record {
-      events = all-append FitsItsLine (ack_events me m.rows) (sent_events me w sent)
-          (all-map IsRow FitsItsLine _ (λ row is. (c, (is.call, is.place))) m.rows move.rows) (sent_fits me w sent c fit.segment entry);
+      events = all-append IsEvent (ack_events me m.rows) (sent_events me w sent)
+          (all-map IsRow IsEvent _ (λ row is. (c, (is.call, is.place))) m.rows move.rows) (sent_fits me w sent c fit.segment entry);
       sent = entry_fits w sent fit.stream entry;
       taken = omega arith;
       letters = each_letter_fits me m.letters c move.letters;
@@ -92,7 +96,7 @@ move_acts_fit me n k more r e w m c small fit move =
 
 -- records that are taken
 took_fit : (me : ClientArgs) (s : List ℕ) (txid call : ℕ) (payloads : List (List ℕ)) → IsClient me.number → IsName s → IsTxid txid
-    → call + length payloads ≤ suc most_u32 → AllByRecursion AllBytes payloads → AllByRecursion FitsItsLine (took_events me s txid call payloads)
+    → call + length payloads ≤ suc most_u32 → AllByRecursion AllBytes payloads → AllByRecursion IsEvent (took_events me s txid call payloads)
 took_fit me s txid call [] c name t few each = tt
 took_fit me s txid call (p ∷ ps) c name t few each =
     let here : call ≤ most_u32 = omega arith in
@@ -108,7 +112,7 @@ took_length me s txid call (p ∷ ps) = omega (arith, took_length me s txid (suc
 
 -- a refused call
 refuses_call_fits : (me : ClientArgs) (n k more : ℕ) (now : ClientNow) (w : WriterView) (call : LogCall) (r : Refusal)
-    → IsClient me.number → RefusalFits r → WriterFits n (with_call w call) → NowFits me n k now → MoveFits me n k more (refuses_call me now w call r)
+    → IsClient me.number → IsRefusal r → WriterFits n (with_call w call) → NowFits me n k now → MoveFits me n k more (refuses_call me now w call r)
 refuses_call_fits me n k more now w call r c told is fit =
     refuses_fits me n k more (with_writer now (with_call w call)) r c told (writer_fits me n k now (with_call w call) is fit)
 
@@ -119,11 +123,10 @@ takes_fits : (me : ClientArgs) (n k : ℕ) (now : ClientNow) (w : WriterView) (c
     → CallFits (set_most * n + set_most) (suc (suc (2 * n))) result → MoveFits me (suc n) k 1 (takes me now w call txid payloads result)
 takes_fits me n k now w call txid payloads (Err r) args is taken writer fit result =
     let h : set_most * n ≤ most_u32 = omega (arith, args.calls) in
-    let room : suc (2 * n) ≤ most_u64 = omega (arith, args.calls) in
+    let room : suc (suc (2 * n)) ≤ most_u64 = omega (arith, args.calls) in
     refuses_call_fits me (suc n) k 1 now w call r args.number result (call_fits n w call h room is writer) (now_more me n k (suc n) now (omega arith) fit)
 takes_fits me n k now w call txid payloads (Ok m) args is taken writer fit result =
     let h : set_most * n ≤ most_u32 = omega (arith, args.calls) in
-    let room : suc (2 * n) ≤ most_u64 = omega (arith, args.calls) in
     let f : suc (suc (2 * n)) ≤ most_u64 = omega (arith, args.calls) in
     let next = now_more me n k (suc n) now (omega arith) fit in
     let acts = move_acts_fit me n k 1 (set_most * n + set_most) (suc (suc (2 * n))) w m args.number f writer result in
@@ -132,11 +135,11 @@ takes_fits me n k now w call txid payloads (Ok m) args is taken writer fit resul
         count = fit.count;
         taken = omega (arith, fit.taken, taken.few);
         order = next.order;
-        writer = call_fits n w call h room is writer;
+        writer = call_fits n w call h f is writer;
         reader = next.reader;
       };
       acts = record {
-        events = all-append FitsItsLine (move_acts me w m).events (took_events me w.stream txid (suc now.taken) payloads) acts.events
+        events = all-append IsEvent (move_acts me w m).events (took_events me w.stream txid (suc now.taken) payloads) acts.events
             (took_fit me w.stream txid (suc now.taken) payloads args.number writer.stream taken.id taken.calls taken.bytes);
         sent = acts.sent;
         letters = acts.letters;
@@ -206,28 +209,29 @@ flushes_fits me n k now (Some w) args writer fit =
 
 -- a close goes on with its requests
 close_goes_fits : (me : ClientArgs) (n k more : ℕ) (now : ClientNow) (o : Order) (acts : Acts) (args : CloseArgs)
-    → IsClient me.number → OrderFits me k o → NowFits me n k now → ActsFit more acts → MoveFits me n k more (begins_close me now o acts args)
-close_goes_fits me n k more now o acts args c order fit acted =
+    → IsClient me.number → CloseArgsFit args → OrderFits me k o → NowFits me n k now → ActsFit more acts → MoveFits me n k more (begins_close me now o acts args)
+close_goes_fits me n k more now o acts args c is order fit acted =
     goes_fits me n k more now (order_doing o (Closes args [])) acts Any (close_first args).1 _ c
-    (record { stream = order.stream; line = order.line; doing = tt }) fit acted tt
+    (record { stream = order.stream; line = order.line; doing = is }) fit acted tt
     (any_next (close_first args).1) (λ u p. waits_fits me n k more now o acts order fit acted)
 
 -- a commit or a close goes on
 log_goes_fits : (me : ClientArgs) (n k more most : ℕ) (now : ClientNow) (w : WriterView) (o : Order) (acts : Acts) (doing : Doing) (state : LogState)
-    → IsClient me.number → IsName w.stream → IsU64 w.opened.segment → most ≤ most_u64 → ToldUpTo most state → OrderFits me k o → NowFits me n k now
+    → IsClient me.number → WriterFits n w → most ≤ most_u64 → ToldUpTo most state → OrderFits me k o → NowFits me n k now
     → ActsFit more acts
     → MoveFits me n k more (log_goes_on me now w o acts doing state)
 unfolding log_goes_on
-log_goes_fits me n k more most now w o acts Commits (HasCommitted control) c name segment small told order fit acted =
+log_goes_fits me n k more most now w o acts Commits (HasCommitted control) c writer small told order fit acted =
     ends_fits me n k more now o acts (event.Committed w.stream (place w.opened.segment control 0)) fit acted
-    (name, (segment, ((omega arith, omega (arith, small, told)), (omega arith, omega arith))))
-log_goes_fits me n k more most now w o acts Commits (IsFenced bookie) c name segment small told order fit acted =
+    (writer.stream, (writer.segment, ((omega arith, omega (arith, small, told)), (omega arith, omega arith))))
+log_goes_fits me n k more most now w o acts Commits (IsFenced bookie) c writer small told order fit acted =
     ends_fits me n k more now o acts (refusal_event me (why.Fenced bookie)) fit acted (c, told)
-log_goes_fits me n k more most now w o acts Confirms (MayClose entries rows last) c name segment small told order fit acted =
-    close_goes_fits me n k more now o acts (close_args w entries rows last) c order fit acted
-log_goes_fits me n k more most now w o acts Confirms (IsFenced bookie) c name segment small told order fit acted =
+log_goes_fits me n k more most now w o acts Confirms (MayClose entries rows last) c writer small told order fit acted =
+    close_goes_fits me n k more now o acts (close_args w entries rows last) c
+    (record { stream = writer.stream; owner = writer.member; member = writer.member }) order fit acted
+log_goes_fits me n k more most now w o acts Confirms (IsFenced bookie) c writer small told order fit acted =
     ends_fits me n k more now o acts (refusal_event me (why.Fenced bookie)) fit acted (c, told)
-log_goes_fits me n k more most now w o acts doing state c name segment small told order fit acted = waits_fits me n k more now o acts order fit acted
+log_goes_fits me n k more most now w o acts doing state c writer small told order fit acted = waits_fits me n k more now o acts order fit acted
 
 -- the order under way goes on
 order_goes_fits : (me : ClientArgs) (n k more : ℕ) (now : ClientNow) (w : WriterView) (acts : Acts) (o : Option Order)
@@ -235,7 +239,7 @@ order_goes_fits : (me : ClientArgs) (n k more : ℕ) (now : ClientNow) (w : Writ
     → MoveFits me n k more (order_goes_on me now w acts o)
 order_goes_fits me n k more now w acts None c small writer order fit acted = record { now = fit; acts = acted }
 order_goes_fits me n k more now w acts (Some o) c small writer order fit acted =
-    log_goes_fits me n k more (2 * n) now w o acts o.doing (log_state (log_now w)) c writer.stream writer.segment small
+    log_goes_fits me n k more (2 * n) now w o acts o.doing (log_state (log_now w)) c writer small
     (state_fit (set_most * n) (2 * n) (log_now w) writer.log) order fit acted
 
 -- a commit or a close that begins, or is refused
@@ -281,10 +285,11 @@ pub writer_hears_fits : (me : ClientArgs) (n k : ℕ) (now : ClientNow) (w : Opt
 writer_hears_fits me n k now None ledger b m args from writer fit = stays_fits me n k 0 now fit
 writer_hears_fits me n k now (Some w) ledger b m args from writer fit =
     let next : WriterView = with_call w (HearsFrom b m) in
-    let heard : WriterFits n next = hears_fits n w b m from writer in
+    let small : 2 * n ≤ most_u64 = omega (arith, args.calls) in
+    let heard : WriterFits n next = hears_fits n w b m small from writer in
     cond_both (MoveFits me n k 0) (ledger == w.opened.ledger) (after_call me now w (HearsFrom b m) (log_hears (log_now w) b m)) (stays now no_acts)
     (order_goes_fits me n k 0 (with_writer now next) next (move_acts me w (log_hears (log_now w) b m)) now.order args.number (omega (arith, args.calls)) heard
     fit.order (writer_fits me n k now next heard fit)
     (move_acts_fit me n k 0 (set_most * n) (2 * n) w (log_hears (log_now w) b m) args.number (omega (arith, args.calls)) writer
-    (hears_fit (set_most * n) (2 * n) (log_now w) b m from writer.log)))
+    (hears_fit (set_most * n) (2 * n) (log_now w) b m small from writer.log)))
     (stays_fits me n k 0 now fit)
