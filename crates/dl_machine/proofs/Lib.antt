@@ -4,6 +4,9 @@ pub mod Movements
 pub mod StayLaws
 pub mod Settlings
 pub mod SessionLaws
+pub mod TreeRanges
+pub mod RequestRanges
+pub mod StreamNames
 pub mod StateRanges
 pub mod PointRanges
 pub mod LineLengths

@@ -1,9 +1,8 @@
 -- The point that a request sets, where it sets one, is a place of a stream.
-use Rattle.std.proofs.Common.{◌≡◌, ℕ, Bool, true, false, List, [], ◌∷◌, ◌++◌, drop, Option, Some, None, Result, Ok, Err, refl, sym, ap, ◌∙◌, subst, arith}
-use Rattle.std.proofs.Common.{slice_index, cond}
+use Rattle.std.proofs.Common.{◌≡◌, ℕ, List, [], ◌∷◌, ◌++◌, drop, Option, Some, None, Result, Ok, Err, refl, sym, ap, ◌∙◌, subst, arith}
+use Rattle.std.proofs.Common.{slice_index}
 use Rattle.std.proofs.lemmas.List.{append_cancel_right}
-use Rattle.std.proofs.lemmas.Slice.Eq.{bytes_eq-Decides}
-use Rattle.std.specs.Prelude.{bytes_eq, codes}
+use Rattle.std.specs.Prelude.{codes}
 use Rattle.std.specs.List.{AllByRecursion}
 use Rattle.dl_types.specs.declared.dlsn.Dlsn.{Dlsn}
 use Rattle.dl_types.specs.declared.one_op.OneOp.{OneOp}
@@ -19,40 +18,31 @@ use Rattle.dl_formats.proofs.Exactness.{cut_exact}
 use Rattle.dl_rules_stream.specs.Requests.{Request, MakeStream, MakeAgain, RemoveStream, MakeMember, ListMembers, LeaveLock, Look, MakeLedger, TakeLedger}
 use Rattle.dl_rules_stream.specs.Requests.{StartSegment, GetSegment, GetLedger, MarkLedger, CloseLedger, CompleteSegment, ListCut, LookCut, SetCut, DropSegment}
 use Rattle.dl_rules_stream.specs.Requests.{op_of, cut_node, drops_old, checks_member}
-use Rattle.dl_rules_client.specs.EventRanges.{FitsItsLine, RequestFits}
+use Rattle.dl_transcript.specs.Ranges.{IsEvent}
+use Rattle.dl_rules_client.specs.EventRanges.{RequestFits}
 use Rattle.dl_rules_client.proofs.RangeLists.{AllOk, AllSome, all-append}
-use Rattle.dl_machine.specs.Growth.{stream_by, stream_in, parts_in, point_events, points_by, ops_of}
+use Rattle.dl_machine.specs.Growth.{stream_in, point_events, points_by, ops_of}
+use Rattle.dl_machine.proofs.StreamNames.{stream_such}
 
 -- the points that an operation sets fit
 abbrev pub PointsFit : OneOp → Type 0
-PointsFit x = AllByRecursion FitsItsLine (points_by x)
+PointsFit x = AllByRecursion IsEvent (points_by x)
 
 -- a stream, and the place that is its point
 abbrev IsPoint : Result Cut MetaBytesFault → List ℕ → Type 0
 IsPoint cut stream = IsName stream × AllOk cut (λ c. IsPlaceFrom 0 c.point)
 
 -- the point of a stream
-point_fits : (stream : Option (List ℕ)) (cut : Result Cut MetaBytesFault) → AllSome (IsPoint cut) stream → AllByRecursion FitsItsLine (point_events stream cut)
+point_fits : (stream : Option (List ℕ)) (cut : Result Cut MetaBytesFault) → AllSome (IsPoint cut) stream → AllByRecursion IsEvent (point_events stream cut)
 point_fits None cut is = tt
 point_fits (Some stream) (Err fault) is = tt
 point_fits (Some stream) (Ok cut) is = (is, tt)
 
--- the stream whose point a path names
-stream_such : (P : List ℕ → Type 0) (path : List ℕ) (parts : List (List ℕ)) → ((stream : List ℕ) → path_of (key.Cut stream) ≡ path → P stream)
-    → AllSome P (stream_by key.Cut path parts)
-stream_such P path [] h = tt
-stream_such P path (before ∷ []) h = tt
-stream_such P path (before ∷ top ∷ []) h = tt
-stream_such P path (before ∷ top ∷ stream ∷ more) h = go (bytes_eq (path_of (key.Cut stream)) path) refl
-  where
-    go : (t : Bool) → bytes_eq (path_of (key.Cut stream)) path ≡ t → AllSome P (cond t (Some stream) None)
-    go true e = h stream ((bytes_eq-Decides (path_of (key.Cut stream)) path).0 e)
-    go false e = tt
-
 -- the points of a set
 set_fits : (path bytes : List ℕ) → ((stream : List ℕ) → path_of (key.Cut stream) ≡ path → IsPoint (cut_at bytes) stream)
-    → AllByRecursion FitsItsLine (point_events (stream_in key.Cut path) (cut_at bytes))
-set_fits path bytes h = point_fits (stream_in key.Cut path) (cut_at bytes) (stream_such (IsPoint (cut_at bytes)) path (parts_in path) h)
+    → AllByRecursion IsEvent (point_events (stream_in key.Cut path) (cut_at bytes))
+set_fits path bytes h =
+    point_fits (stream_in key.Cut path) (cut_at bytes) (stream_such key.Cut (IsPoint (cut_at bytes)) path (λ stream apart e. h stream e))
 
 -- ---- other nodes
 
@@ -73,19 +63,19 @@ other_end : (stream s : List ℕ) (y : ℕ) (ys : List ℕ) → stream ++ 47 ∷
 other_end stream s y ys e = sym (last_behind stream 47 (codes "cut")) ∙ ap last_byte e ∙ last_behind s y ys
 
 -- a set of `maxseq` sets no point
-maxseq_none : (s bytes : List ℕ) → AllByRecursion FitsItsLine (point_events (stream_in key.Cut (path_of (key.MaxSeq s))) (cut_at bytes))
+maxseq_none : (s bytes : List ℕ) → AllByRecursion IsEvent (point_events (stream_in key.Cut (path_of (key.MaxSeq s))) (cut_at bytes))
 unfolding path_of
 maxseq_none s bytes = set_fits (path_of (key.MaxSeq s)) bytes
     (λ stream e. let bad : 116 ≡ 113 = other_end stream s 47 (codes "maxseq") (ap (drop 9) e) in absurd (omega (arith, bad)))
 
 -- nor does one of `alloc`
-alloc_none : (s bytes : List ℕ) → AllByRecursion FitsItsLine (point_events (stream_in key.Cut (path_of (key.Alloc s))) (cut_at bytes))
+alloc_none : (s bytes : List ℕ) → AllByRecursion IsEvent (point_events (stream_in key.Cut (path_of (key.Alloc s))) (cut_at bytes))
 unfolding path_of
 alloc_none s bytes = set_fits (path_of (key.Alloc s)) bytes
     (λ stream e. let bad : 116 ≡ 99 = other_end stream s 47 (codes "alloc") (ap (drop 9) e) in absurd (omega (arith, bad)))
 
 -- nor does one of a ledger's node
-ledger_none : (n : ℕ) (bytes : List ℕ) → AllByRecursion FitsItsLine (point_events (stream_in key.Cut (path_of (key.Ledger n))) (cut_at bytes))
+ledger_none : (n : ℕ) (bytes : List ℕ) → AllByRecursion IsEvent (point_events (stream_in key.Cut (path_of (key.Ledger n))) (cut_at bytes))
 unfolding path_of
 ledger_none n bytes = set_fits (path_of (key.Ledger n)) bytes
     (λ stream e. let bad : 115 ≡ 108 = ap (λ path. slice_index path 1) e in absurd (omega (arith, bad)))
@@ -99,7 +89,7 @@ cut_again d is = node_again cut_exact (cut_node d) (record { point = d })
 
 -- a set of a stream's point
 cut_fits : (s : List ℕ) (d : Dlsn) → IsName s → IsPlaceFrom 1 d
-    → AllByRecursion FitsItsLine (point_events (stream_in key.Cut (path_of (key.Cut s))) (cut_at (cut_node d)))
+    → AllByRecursion IsEvent (point_events (stream_in key.Cut (path_of (key.Cut s))) (cut_at (cut_node d)))
 unfolding path_of
 cut_fits s d name is = set_fits (path_of (key.Cut s)) (cut_node d) (λ stream e.
     let same : stream ≡ s = append_cancel_right stream s (47 ∷ codes "cut") (ap (drop 9) e) in

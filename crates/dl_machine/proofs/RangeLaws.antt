@@ -19,9 +19,9 @@ use Rattle.dl_schedule.specs.StepLines.{IsStep, IsLink}
 use Rattle.dl_transcript.specs.declared.event.Event.{Event}
 use Rattle.dl_transcript.specs.declared.event.Event.TheVariants as event
 use Rattle.dl_transcript.specs.Lines.{at_line, print_event, print_transcript}
-use Rattle.dl_transcript.specs.Ranges.{IsU32}
+use Rattle.dl_transcript.specs.Ranges.{IsU32, IsEvent, IsLine}
 use Rattle.dl_rules_nodes.specs.Metadata.{meta_from}
-use Rattle.dl_rules_client.specs.EventRanges.{FitsItsLine, LetterFits, IsCountable}
+use Rattle.dl_rules_client.specs.EventRanges.{LetterFits, IsCountable}
 use Rattle.dl_rules_client.proofs.RangeLists.{all-append}
 use Rattle.dl_machine.specs.States.{State, blank, bookies_of}
 use Rattle.dl_machine.specs.Atoms.{Atom, SetUp, Join, Crash, End, Order, Deliver, Commit, Stop, StopMeta, Kill, KillMeta, Rise, RiseMeta, Lose, Shows, atom}
@@ -33,7 +33,7 @@ use Rattle.dl_machine.specs.Replays.{replay, replay_text}
 use Rattle.dl_machine.specs.Fates.{with_luck, well}
 use Rattle.dl_machine.specs.Runs.{after, events, next_letter, nodes_due, turn_by, turn, settles, busy_atoms, line_atoms, step_with, run, transcript}
 use Rattle.dl_machine.specs.Laws.{turns_on, turns}
-use Rattle.dl_machine.specs.RangeLaws.{FitsAtLine, FittingText, EventsFitTheirLines}
+use Rattle.dl_machine.specs.RangeLaws.{FittingText, EventsFitTheirLines}
 use Rattle.dl_machine.proofs.Movements.{cond_both}
 use Rattle.dl_types.specs.declared.limit.LimitName.{LimitName}
 use Rattle.std.proofs.Common.{length-drop}
@@ -43,7 +43,10 @@ use Rattle.dl_machine.specs.Limits.{most_messages, most_message_bytes}
 use Rattle.dl_machine.specs.Replays.{past_text}
 use Rattle.dl_machine.proofs.FateLaws.{failures_aside}
 use Rattle.dl_machine.proofs.LineLengths.{line_countable}
-use Rattle.dl_machine.proofs.StateRanges.{StateFits, state_more, IsAtom, cost, takings, atom_fits}
+use Rattle.dl_tree.specs.Trees.{root_alone}
+use Rattle.dl_machine.proofs.TreeRanges.{tree_more}
+use Rattle.dl_machine.proofs.RequestRanges.{root_fits}
+use Rattle.dl_machine.proofs.StateRanges.{tree_most, StateFits, state_more, IsAtom, cost, takings, atom_fits}
 
 -- ---- atomic steps in order
 
@@ -60,10 +63,10 @@ all_takings (a ∷ xs) = takings a + all_takings xs
 -- The state behind atomic steps, and what they show.
 record RowFits (lines inputs : ℕ) (s : State) (xs : List Atom) : Type 0 where
   state : StateFits lines inputs (after s xs)
-  shown : AllByRecursion FitsItsLine (events s xs)
+  shown : AllByRecursion IsEvent (events s xs)
 
 -- atomic steps in a row
-row_fits : (n m i j : ℕ) (s : State) (xs : List Atom) → n + costs xs ≤ m → i + all_takings xs ≤ j → m ≤ most_lines → j ≤ most_u64
+row_fits : (n m i j : ℕ) (s : State) (xs : List Atom) → n + costs xs ≤ m → i + all_takings xs ≤ j → m ≤ most_lines → tree_most j ≤ most_u64
     → AllByRecursion IsAtom xs → StateFits n i s → RowFits m j s xs
 unfolding after events
 row_fits n m i j s [] h g few small is fit = record { state = state_more n m i j s (omega (arith, h)) (omega (arith, g)) fit; shown = tt }
@@ -74,7 +77,7 @@ row_fits n m i j s (a ∷ xs) h g few small is fit =
     let others : (i + takings a) + all_takings xs ≤ j = omega (arith, g) in
     let now = atom_fits n (n + cost a) i (i + takings a) s a (omega arith) (omega arith) (omega (arith, here, few)) (omega (arith, taken, small)) is.0 fit in
     let later = row_fits (n + cost a) m (i + takings a) j (atom s a).state xs rest others few small is.1 now.state in
-    record { state = later.state; shown = all-append FitsItsLine (atom s a).events (events (atom s a).state xs) now.events later.shown }
+    record { state = later.state; shown = all-append IsEvent (atom s a).events (events (atom s a).state xs) now.events later.shown }
 
 -- ---- the atomic steps of a line
 
@@ -260,7 +263,7 @@ line_fits s line x number mail is =
 -- ---- runs
 
 -- the events of a line with its number
-numbered_fits : (line : ℕ) (es : List Event) → IsU32 line → AllByRecursion FitsItsLine es → AllByRecursion FitsAtLine (at_line line es)
+numbered_fits : (line : ℕ) (es : List Event) → IsU32 line → AllByRecursion IsEvent es → AllByRecursion IsLine (at_line line es)
 numbered_fits line [] number each = tt
 numbered_fits line (e ∷ es) number each = ((number, each.0), numbered_fits line es number each.1)
 
@@ -280,7 +283,7 @@ run_grows s line (x ∷ xs) =
 -- a run behind so many lines
 run_fits : (n : ℕ) (s : State) (line : ℕ) (xs : List Step) → line ≡ suc n → n + length xs ≤ most_lines → AllByRecursion IsStep xs
     → AllByRecursion IsCountable xs → length (run s line xs).state.letters ≤ most_messages → StateFits n (line_takings * n) s
-    → AllByRecursion FitsAtLine (run s line xs).transcript
+    → AllByRecursion IsLine (run s line xs).transcript
 unfolding run step_with
 run_fits n s line [] at few is counts sent fit = tt
 run_fits n s line (x ∷ xs) at few is counts sent fit =
@@ -290,7 +293,7 @@ run_fits n s line (x ∷ xs) at few is counts sent fit =
     let here : suc n ≤ most_lines = omega (arith, few) in
     let rest : suc n + length xs ≤ most_lines = omega (arith, few) in
     let row = row_behind n s atoms here its fit in
-    all-append FitsAtLine (at_line line (events s atoms)) (run (after s atoms) (suc line) xs).transcript
+    all-append IsLine (at_line line (events s atoms)) (run (after s atoms) (suc line) xs).transcript
     (numbered_fits line (events s atoms) (omega arith, omega (arith, at, here)) row.shown)
     (run_fits (suc n) (after s atoms) (suc line) xs (omega (arith, at)) rest is.1 counts.1 sent row.state)
 
@@ -299,17 +302,18 @@ blank_fits : StateFits 0 0 blank
 unfolding meta_from
 blank_fits = record {
   conf = tt;
-  nodes = λ b. record { bookie = tt; other = tt };
+  nodes = λ b. record { bookie = record { queue = tt; batches = tt }; other = tt };
   letters = tt;
   joined = λ c. tt;
   calls = λ c. omega arith;
   ledgers = λ l. tt;
   sessions = omega arith;
+  tree = tree_more 1 (tree_most 0) root_alone (omega arith) root_fits;
 }
 
 -- a run from the first line on
 all_fit : (steps : List Step) → AllByRecursion IsStep steps → AllByRecursion IsCountable steps → length steps ≤ most_lines
-    → length (run blank 1 steps).state.letters ≤ most_messages → AllByRecursion FitsAtLine (transcript steps)
+    → length (run blank 1 steps).state.letters ≤ most_messages → AllByRecursion IsLine (transcript steps)
 all_fit steps is counts few sent = run_fits 0 blank 1 steps refl (omega (arith, few)) is counts sent blank_fits
 
 -- ---- replays
@@ -370,11 +374,11 @@ no_text : FittingText []
 no_text = record { events = []; printed = refl; fit = tt }
 
 -- the text of events that fit, and then another
-more_text : (xs : List (ℕ × Event)) (text : List ℕ) → AllByRecursion FitsAtLine xs → FittingText text → FittingText (print_transcript xs ++ text)
+more_text : (xs : List (ℕ × Event)) (text : List ℕ) → AllByRecursion IsLine xs → FittingText text → FittingText (print_transcript xs ++ text)
 more_text xs text each t = record {
   events = xs ++ t.events;
   printed = ap (λ (ys : List ℕ). print_transcript xs ++ ys) t.printed ∙ sym (print-append xs t.events);
-  fit = all-append FitsAtLine xs t.events each t.fit;
+  fit = all-append IsLine xs t.events each t.fit;
 }
 
 -- What is known before a line of a replay.

@@ -36,10 +36,7 @@ pub fn sessions_are_given()
 {}
 
 /// The values of each event of a run are such as its line takes, and so are the numbers of the
-/// lines, within the limits of a run and in the replay of every schedule. Open are the rows that a
-/// reader is given, the name of a stream whose segment is closed, the place at which a reader
-/// opens, and of refusals a path, a version, a count of children and a point: `FitsItsLine` and
-/// `RefusalFits` say so.
+/// lines, within the limits of a run and in the replay of every schedule.
 pub fn events_fit_their_lines()
     ensures { EventsFitTheirLines }
 {}
