@@ -3,7 +3,7 @@ use Rattle.std.specs.Prelude.{◌≡◌, List, [], ◌∷◌}
 use Rattle.dl_msg.specs.declared.heard.Heard.{Heard}
 use Rattle.dl_msg.specs.declared.turn.Turn.{Turn}
 use Rattle.dl_rules_stream.specs.Orders.{Next, stage_after}
-use Rattle.dl_requests.specs.Turns.{turn_of}
+use Rattle.dl_requests.specs.Turns.{turn_of, next_by}
 
 -- What an order is given, and what was heard, the newest first.
 pub record View (X : Type 0) : Type 0 where
@@ -35,4 +35,10 @@ pub record GoesBy {R A F : Type 0} (At : R → F → Type 0) (move : R × Next A
 -- A task answers by what its view says, and stands then for the view with what it heard.
 pub record Hears {X R A F : Type 0} (o : Order X R A) (For : View X → F → Type 0) (v : View X) (h : Heard) (t : Turn A) (f : F) : Type 0 where
   pub turn : t ≡ turn_of (o.hears v.given (stage_by o v) h).1
+  pub stands : For (with_heard v h) f
+
+-- The same of a task that is done with what this makes of the rule's value.
+pub record HearsBy {X R A B F : Type 0} (result : A → B) (o : Order X R A) (For : View X → F → Type 0) (v : View X) (h : Heard) (t : Turn B) (f : F)
+    : Type 0 where
+  pub turn : t ≡ turn_of (next_by result (o.hears v.given (stage_by o v) h).1)
   pub stands : For (with_heard v h) f

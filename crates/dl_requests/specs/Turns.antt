@@ -14,6 +14,18 @@ turn_of (Tell letters) = turn.Tell letters
 turn_of (Done result) = turn.Done result
 turn_of (Refused refusal) = turn.Refused refusal
 
+-- the same where the order is done with a value that this makes of its own
+abbrev pub next_by : {A B : Type 0} → (A → B) → Next A → Next B
+next_by f Wait = Wait
+next_by f (Ask request) = Ask request
+next_by f (Tell letters) = Tell letters
+next_by f (Done result) = Done (f result)
+next_by f (Refused refusal) = Refused refusal
+
+-- where an order goes, done with such a value
+abbrev pub goes_by : {R A B : Type 0} → (A → B) → R × Next A → R × Next B
+goes_by f (stage, next) = (stage, next_by f next)
+
 -- the stage to which an order goes, and the turn of what it does next
 abbrev pub answer_of : {R A : Type 0} → R × Next A → R × Turn A
 answer_of (stage, next) = (stage, turn_of next)

@@ -25,7 +25,6 @@ use std::alloc::Global;
 /// The request that reads the node of a ledger.
 #[tactic(auto, unfolding(dl_rules_stream::specs::Requests::op_of))]
 pub fn get_ledger(alloc: Global, ledger: u64) -> Result<MetaOp, NoMemory>
-    requires { ledger ≤ ten_nines }
     ensures { IfOk result (λ op. op ≡ op_of (GetLedger ledger)) }
 {
     let path = ledger_path(alloc, ledger)?;

@@ -12,5 +12,6 @@ pub mod moves;
 pub mod nodes;
 pub mod numbers;
 pub mod refusals;
+pub mod segment_end;
 pub mod segments;
 pub mod streams;

@@ -1,10 +1,12 @@
 ghost use Rattle.std.specs.Prelude.{◌≡◌, IfOk};
 ghost use Rattle.dl_msg.specs.declared.turn.Turn.TheVariants as turn;
 ghost use Rattle.dl_rules_stream.specs.Requests.{Request, op_of};
-ghost use Rattle.dl_rules_stream.specs.Orders.{no_way_on};
+ghost use Rattle.dl_rules_stream.specs.Orders.{no_way_on, tells};
+ghost use Rattle.dl_requests.specs.Turns.{turn_of};
 ghost use Rattle.dl_requests.specs.declared.moves.Move.TheVariants.{Goes};
 
 use crate::refusals::no_way_on;
+use dl_msg::letters::Letters;
 use dl_msg::turn::Turn;
 use dl_types::memory::NoMemory;
 use dl_types::meta_op::MetaOp;
@@ -26,6 +28,17 @@ pub fn asks<S, A>(stage: S, request: MetaOp) -> Move<S, A>
     ensures { result ≡ Goes stage (turn.Ask request) }
 {
     Move::Goes(stage, Turn::Ask(request))
+}
+
+/// Messages are told, where there are any.
+pub fn tells<A>(letters: Letters) -> Turn<A>
+    ensures { result ≡ turn_of (tells letters) }
+{
+    if letters.as_slice().is_empty() {
+        Turn::Wait
+    } else {
+        Turn::Tell(letters)
+    }
 }
 
 /// The task is done with this value; this is the stage of one that is over.

@@ -1,10 +1,10 @@
 //! The values of a stream's nodes, from the bytes that a task heard. Where the bytes are not in the form of their node, the
 //! order gives up at its path.
 
-ghost use Rattle.std.specs.Prelude.{◌≡◌, IfOk};
-ghost use Rattle.dl_formats.specs.NodeBytes.{IsMaxSeq};
+ghost use Rattle.std.specs.Prelude.{◌≡◌, ◌≤◌, IfOk};
+ghost use Rattle.dl_formats.specs.NodeBytes.{IsMaxSeq, IsSegmentMeta, ten_nines};
 ghost use Rattle.dl_formats.specs.Reading.{cut_at, maxseq_at, segment_at};
-ghost use Rattle.dl_rules_stream.specs.Listings.{point_of, maxseq_of, segment_of, is_named};
+ghost use Rattle.dl_rules_stream.specs.Listings.{point_of, maxseq_of, segment_of, is_named, ledger_of};
 
 use crate::segments::segment_path;
 use dl_formats::cut::Cut;
@@ -37,7 +37,8 @@ fn maxseq_at(bytes: &[u8]) -> Result<MaxSeq, MetaBytesFault>
 
 /// What the bytes of a segment's node spell.
 fn segment_at(bytes: &[u8]) -> Result<SegmentMeta, MetaBytesFault>
-    ensures { result ≡ segment_at bytes.now }
+    ensures value { result ≡ segment_at bytes.now }
+    ensures valid { IfOk result IsSegmentMeta }
 {
     decode_segment(bytes)
 }
@@ -99,7 +100,8 @@ pub fn segment_of(
     name: SegmentName,
     bytes: &[u8],
 ) -> Result<Result<SegmentMeta, Refusal>, NoMemory>
-    ensures { IfOk result (λ read. read ≡ segment_of stream.now name bytes.now) }
+    ensures value { IfOk result (λ read. read ≡ segment_of stream.now name bytes.now) }
+    ensures valid { IfOk result (λ read. IfOk read IsSegmentMeta) }
 {
     if let Ok(meta) = segment_at(bytes) {
         if is_named(name, &meta) {
@@ -108,4 +110,15 @@ pub fn segment_of(
     }
     let path = segment_path(alloc, stream, name)?;
     Ok(Err(Refusal::GaveUp { path }))
+}
+
+/// The ledger that stores a segment.
+pub fn ledger_of(meta: &SegmentMeta) -> u64
+    ensures value { result ≡ ledger_of meta.now }
+    ensures few { IsSegmentMeta meta.now → result ≤ ten_nines }
+{
+    match meta {
+        SegmentMeta::InProgress { ledger, .. } => *ledger,
+        SegmentMeta::Completed { ledger, .. } => *ledger,
+    }
 }

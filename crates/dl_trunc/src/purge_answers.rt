@@ -3,7 +3,7 @@
 ghost use Rattle.std.specs.Prelude.{◌≡◌, ℕ, List, IfOk, filter};
 ghost use Rattle.dl_types.specs.declared.meta_answer.MetaAnswer.TheVariants as answer;
 ghost use Rattle.dl_formats.specs.declared.segment_name.SegmentName.{SegmentName};
-ghost use Rattle.dl_rules_stream.specs.Listings.{point_of, segment_of, ledger_of};
+ghost use Rattle.dl_rules_stream.specs.Listings.{point_of, segment_of};
 ghost use Rattle.dl_msg.specs.declared.turn.Turn.TheVariants as turn;
 ghost use Rattle.dl_rules_stream.specs.Requests.{Request, op_of};
 ghost use Rattle.dl_rules_stream.specs.Orders.{no_way_on, or_refused};
@@ -15,12 +15,11 @@ ghost use Rattle.dl_trunc.specs.declared.purge_answers.Step.TheVariants.{Goes};
 ghost use Rattle.dl_trunc.specs.Purging.{purge_stage_of, step_answer};
 
 use crate::purge_stage::PurgeStage;
-use dl_formats::segment::SegmentMeta;
 use dl_formats::segment_name::SegmentName;
 use dl_msg::turn::Turn;
 use dl_requests::cuts::list_cut;
 use dl_requests::listing::{number_of, segments_of};
-use dl_requests::nodes::{point_of, segment_of};
+use dl_requests::nodes::{ledger_of, point_of, segment_of};
 use dl_requests::refusals::no_way_on;
 use dl_requests::segments::{drop_segment, get_segment};
 use dl_types::memory::NoMemory;
@@ -73,16 +72,6 @@ fn those_below(
         }
     }
     Ok(left)
-}
-
-/// The ledger that stores a segment.
-fn ledger_of(meta: SegmentMeta) -> u64
-    ensures { result ≡ ledger_of meta }
-{
-    match meta {
-        SegmentMeta::InProgress { ledger, .. } => ledger,
-        SegmentMeta::Completed { ledger, .. } => ledger,
-    }
 }
 
 /// It is refused, since there is no way on from where its request failed.
@@ -156,7 +145,7 @@ fn after_get(
 {
     match segment_of(alloc, stream, segment, bytes)? {
         Ok(meta) => {
-            let ledger = ledger_of(meta);
+            let ledger = ledger_of(&meta);
             let request = drop_segment(alloc, stream, number_of(segment), ledger)?;
             Ok(Step::Goes(PurgeStage::Dropping { segment, ledger }, Turn::Ask(request)))
         }
