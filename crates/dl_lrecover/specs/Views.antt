@@ -10,12 +10,14 @@ use Rattle.dl_rules_stream.specs.Listings.{pieces_of}
 use Rattle.dl_rules_stream.specs.LedgerRecoveries as rule
 use Rattle.dl_subject.specs.Sets.{IsSetOf}
 use Rattle.dl_requests.specs.Turns.{turn_of}
+use Rattle.dl_lrecover.specs.declared.ending.Ending.{Ending}
+use Rattle.dl_lrecover.specs.declared.ending.Ending.TheVariants as ending
 use Rattle.dl_lrecover.specs.declared.outcome.Missing.{Missing}
 use Rattle.dl_lrecover.specs.declared.outcome.Missing.TheVariants as lacks
 use Rattle.dl_lrecover.specs.declared.outcome.Outcome.{Outcome}
 use Rattle.dl_lrecover.specs.declared.outcome.Outcome.TheVariants as outcome
 use Rattle.dl_lrecover.specs.Facts.{RecoveryFacts}
-use Rattle.dl_lrecover.specs.Standing.{StageStands}
+use Rattle.dl_lrecover.specs.Standing.{IsNodeAt, StageStands}
 
 -- What a recovery was started with, and what it heard, the newest first.
 pub record RecoveryView : Type 0 where
@@ -80,3 +82,12 @@ ComesTo x known _ _ = ⊥
 -- the outcome of a view
 abbrev pub IsOutcome : RecoveryView → Outcome → Type 0
 IsOutcome v o = ComesTo v.args (rule.node_of (stage_in v)) (rule.outcome_of (stage_in v)) o
+
+-- how a recovery has ended is what the rule says: the node of a closed ledger, or that its node is gone
+abbrev pub EndsBy : rule.RecoveryArgs → rule.RecoveryStage → Ending → Type 0
+EndsBy x (rule.IsClosed m) (ending.Closed at) = IsNodeAt x m at
+EndsBy x (rule.IsClosed m) _ = ⊥
+EndsBy x (rule.IsGone old) ending.Gone = Unit {0}
+EndsBy x (rule.IsGone old) _ = ⊥
+EndsBy x stage ending.Open = Unit {0}
+EndsBy x stage _ = ⊥

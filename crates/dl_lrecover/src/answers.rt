@@ -8,9 +8,8 @@ ghost use Rattle.dl_rules_stream.specs.Nodes.{LedgerNode};
 ghost use Rattle.dl_rules_stream.specs.LedgerRecoveries as rule;
 ghost use Rattle.dl_types.specs.declared.one_answer.OneAnswer.TheVariants.{Bytes, Version};
 ghost use Rattle.dl_rules_stream.specs.Requests.{Request, op_of};
-ghost use Rattle.dl_rules_stream.specs.Orders.{Refused, no_way_on, tells};
+ghost use Rattle.dl_rules_stream.specs.Orders.{Refused, no_way_on};
 ghost use Rattle.dl_lrecover.specs.Failures.{failed_setting};
-ghost use Rattle.dl_requests.specs.Turns.{turn_of};
 ghost use Rattle.dl_lrecover.specs.Finding.{PhaseStands, StepStands};
 ghost use Rattle.dl_lrecover.specs.Standing.{IsMove, IsNodeAt, IsNodeIn, StageStands, args_of};
 
@@ -22,10 +21,10 @@ use crate::target::{Located, Target};
 use dl_formats::ledger::LedgerState;
 use dl_formats::paths::ledger_path;
 use dl_msg::heard::Heard;
-use dl_msg::letters::Letters;
 use dl_msg::msg::Msg;
 use dl_msg::turn::Turn;
 use dl_requests::ledger_nodes::{close_ledger, get_ledger, ledger_in, mark_ledger};
+use dl_requests::moves::tells;
 use dl_requests::refusals::no_way_on;
 use dl_types::memory::NoMemory;
 use dl_types::meta_answer::MetaAnswer;
@@ -45,17 +44,6 @@ fn gives_up(alloc: Global, target: &Target, stage: Stage) -> Result<After, NoMem
 {
     let path = ledger_path(alloc, target.ledger)?;
     Ok((stage, Turn::Refused(Refusal::GaveUp { path })))
-}
-
-/// Messages are told, where there are any.
-fn tells(letters: Letters) -> Turn<u64>
-    ensures { result ≡ turn_of (tells letters) }
-{
-    if letters.as_slice().is_empty() {
-        Turn::Wait
-    } else {
-        Turn::Tell(letters)
-    }
 }
 
 /// The search has gone on: at its end the node is closed at the count that was found.

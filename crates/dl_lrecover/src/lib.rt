@@ -4,12 +4,13 @@
 #![tactic(auto)]
 
 mod answers;
+pub mod ending;
 mod finding;
 mod locating;
 pub mod outcome;
 mod phase;
 pub mod recovery;
 mod stage;
-mod target;
+pub mod target;
 #[cfg(test)]
 mod tests;

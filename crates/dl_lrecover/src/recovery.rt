@@ -10,9 +10,10 @@ ghost use Rattle.dl_requests.specs.LedgerNodes.{node_of_meta};
 ghost use Rattle.dl_requests.specs.Turns.{turn_of};
 ghost use Rattle.dl_lrecover.specs.Standing.{args_of};
 ghost use Rattle.dl_lrecover.specs.Views.{RecoveryView, new_view, args, stage_in};
-ghost use Rattle.dl_lrecover.specs.Views.{StandsAt, StandsFor, GoesBy, IsHearing, IsOutcome};
+ghost use Rattle.dl_lrecover.specs.Views.{StandsAt, StandsFor, GoesBy, IsHearing, IsOutcome, EndsBy};
 
 use crate::answers::after_heard;
+use crate::ending::Ending;
 use crate::outcome::{Missing, Outcome};
 use crate::phase::Phase;
 use crate::stage::Stage;
@@ -110,6 +111,18 @@ impl Recovery {
             Stage::IsClosed { node } => Outcome::Closed(node.meta.count),
             Stage::IsGone { .. } => Outcome::Gone,
             _ => Outcome::NotYet(Missing::Reply),
+        }
+    }
+
+    /// How it has ended, where it has: at each stage at which it stands.
+    pub fn ending(&self) -> Ending
+        ensures { (x : rule.RecoveryArgs) (stage : rule.RecoveryStage)
+            → StandsAt x stage self.now → EndsBy x stage result }
+    {
+        match self.stage {
+            Stage::IsClosed { node } => Ending::Closed(node),
+            Stage::IsGone { .. } => Ending::Gone,
+            _ => Ending::Open,
         }
     }
 

@@ -17,8 +17,10 @@ pub(crate) struct Target {
 
 /// The metadata of a ledger, with its ensemble.
 #[derive(Clone, Copy, Debug)]
-pub(crate) struct Located {
+pub struct Located {
+    /// The metadata.
     pub meta: LedgerMeta,
+    /// The bookies that the ledger is spread over.
     pub ensemble: Ensemble,
     pub ghost rule: { ensemble.e ≡ meta.q.e },
 }
