@@ -1,3 +1,4 @@
 pub mod Answering
 pub mod Facts
 pub mod Standing
+pub mod Steps

@@ -1,9 +1,10 @@
-ghost use Rattle.std.specs.Prelude.{◌≡◌, ◌+◌, ◌^◌, ◌<◌, OnErr, IfOk, IfErr};
+ghost use Rattle.std.specs.Prelude.{◌≡◌, ◌+◌, ◌^◌, ◌<◌, ◌==◌, nat_le, OnOk, OnErr, IfOk, IfErr};
 ghost use Rattle.dl_quorum.specs.Sizes.{sizes_of};
 ghost use Rattle.dl_quorum.specs.Pieces.{one_piece, ensemble_members};
 ghost use Rattle.dl_rules_ledger.specs.Writers.{WriterView, Hears, new_view, with_call, sent_count};
 ghost use Rattle.dl_rules_ledger.specs.Writers.{confirmed_count, fence_bookie, closing_count};
 ghost use Rattle.dl_lwrite.specs.Standing.{StandsFor, IsSending, Refuses};
+ghost use Rattle.dl_lwrite.specs.Steps.{HasSent, HasHeard, IsStop};
 
 use crate::acknowledge::{acknowledge, advance, fenced_after};
 use crate::send_fault::SendFault;
@@ -16,7 +17,7 @@ use dl_rules_ledger::window::WINDOW;
 use dl_types::ensemble::Ensemble;
 use dl_types::memory::NoMemory;
 use dl_types::quorum::Quorum;
-use std::alloc::Global;
+use std::alloc::{AllocError, Global};
 use std::collections::VecDeque;
 use std::marker::Model;
 
@@ -59,6 +60,25 @@ impl Model for LedgerWriter {
     } };
 }
 
+/// A copy is a writer of its own: a caller sends or hears on it, and keeps it only once nothing can fail any more.
+impl Clone for LedgerWriter {
+    ghost is_clone = { λ w copy. copy ≡ w };
+
+    fn clone(&self) -> Result<LedgerWriter, AllocError> {
+        let window = self.window.clone()?;
+        Ok(LedgerWriter {
+            alloc: self.alloc,
+            ledger: self.ledger,
+            q: self.q,
+            ensemble: self.ensemble,
+            sent: self.sent,
+            confirmed: self.confirmed,
+            window,
+            fenced: self.fenced,
+        })
+    }
+}
+
 impl LedgerWriter {
     /// A writer of this ledger that has sent and heard nothing. The ensemble has as many bookies as the quorum says.
     pub fn start(
@@ -86,7 +106,8 @@ impl LedgerWriter {
 
     /// How many of the first entries are confirmed.
     pub fn confirmed(&self) -> u64
-        ensures { (v : WriterView) → StandsFor v self.now → result ≡ confirmed_count v }
+        ensures value { result ≡ self.now.confirmed }
+        ensures view { (v : WriterView) → StandsFor v self.now → result ≡ confirmed_count v }
     {
         self.confirmed
     }
@@ -101,9 +122,24 @@ impl LedgerWriter {
 
     /// The bookie that was the first to say that the ledger is fenced, where one said so.
     pub fn fenced(&self) -> Option<u8>
-        ensures { (v : WriterView) → StandsFor v self.now → result ≡ fence_bookie v }
+        ensures value { result ≡ self.now.fenced }
+        ensures view { (v : WriterView) → StandsFor v self.now → result ≡ fence_bookie v }
     {
         self.fenced
+    }
+
+    /// Whether so many entries are unconfirmed as may be.
+    pub fn is_full(&self) -> bool
+        ensures { result ≡ nat_le (self.now.confirmed + WINDOW) self.now.sent }
+    {
+        self.window.len() >= WINDOW
+    }
+
+    /// Whether all that was sent is confirmed.
+    pub fn is_confirmed(&self) -> bool
+        ensures { result ≡ (self.now.confirmed == self.now.sent) }
+    {
+        self.confirmed == self.sent
     }
 
     /// Sends the next entry: its number, and the messages to its write set in the order of places, which share its bytes
@@ -115,6 +151,8 @@ impl LedgerWriter {
             → IsSending v bytes x.0 x.1 self.new) }
         ensures refused { IfErr result (λ fault. (v : WriterView) → StandsFor v self.old
             → Refuses v fault) }
+        ensures counts { OnOk result (HasSent self.old self.new) }
+        ensures stop { IfErr result (IsStop self.old) }
         ensures kept { OnErr result (self.new ≡ self.old) }
     {
         if let Some(bookie) = self.fenced {
@@ -145,6 +183,8 @@ impl LedgerWriter {
             → StandsFor (with_call v (Hears bookie msg.now)) self.new }
         ensures count { (v : WriterView) → StandsFor v self.old
             → result ≡ confirmed_count (with_call v (Hears bookie msg.now)) }
+        ensures value { result ≡ self.new.confirmed }
+        ensures counts { HasHeard self.old bookie msg.now self.new }
         ensures sent { self.new.sent ≡ self.old.sent }
     {
         acknowledge(
