@@ -1,0 +1,4 @@
+pub mod DraftLemmas
+pub mod Lifting
+pub mod Ending
+pub mod Taking

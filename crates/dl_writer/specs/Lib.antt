@@ -1,0 +1,9 @@
+pub mod Modes
+pub mod Going
+pub mod Facts
+pub mod Drafts
+pub mod Sending
+pub mod Refusals
+pub mod Moves
+pub mod Views
+pub mod States
