@@ -63,6 +63,7 @@ by_name {A = A} s z same apart = go (bytes_eq s z) refl
     go true e = same ((bytes_decides s z).0 e)
     go false e = apart e
 
+-- what an item does to a stream: nothing to its `maxseq`, or it makes the stream, starts a segment or completes one
 pub data Happens (t u : Nodes) (s : List ℕ) : Type 0 where
   nothing : node u (MaxSeq s) ≡ node t (MaxSeq s) → Happens t u s
   makes : node t (MaxSeq s) ≡ None → node u (MaxSeq s) ≡ Some (lasting (maxseq_node 0 0)) → Happens t u s

@@ -334,7 +334,8 @@ unheard_fits : (n i : ℕ) (s : State) → StateFits n i s → StateFits n (suc 
 unheard_fits n i s fit = state_more n n i (suc i) s (omega arith) (omega arith) fit
 
 -- a client takes a letter
-letter_fits : (n i : ℕ) (s : State) (c : ℕ) (conf : Option Conf) (me : Option Joined) (l : Letter) → n ≤ most_lines → tree_most (suc i) ≤ most_u64 → LetterFits l
+letter_fits : (n i : ℕ) (s : State) (c : ℕ) (conf : Option Conf) (me : Option Joined) (l : Letter) → n ≤ most_lines → tree_most (suc i) ≤ most_u64
+    → LetterFits l
     → AllSome ConfFits conf → AllSome (JoinedFits n i c) me → StateFits n i s → OutcomeFits n (suc i) (client_takes s c conf me (Came l))
 letter_fits n i s c (Some conf) (Some me) l few small link world mine fit =
     let view : List Input = Came l ∷ me.view in

@@ -276,7 +276,8 @@ listing_fits most t path None fit = tt
 listing_fits most t path (Some n) fit = (tt, same_fits most t fit)
 
 -- an operation
-one_fits : (most : ℕ) (t : Nodes) (session : ℕ) (x : OneOp) → OneOpFits x → most ≤ most_u64 → TreeFits most t → DoneFits (suc (suc most)) (outcome_of t session x)
+one_fits : (most : ℕ) (t : Nodes) (session : ℕ) (x : OneOp) → OneOpFits x → most ≤ most_u64 → TreeFits most t
+    → DoneFits (suc (suc most)) (outcome_of t session x)
 unfolding outcome_of
 one_fits most t session (Create path bytes mode) is small fit = create_fits most t session path bytes mode is fit
 one_fits most t session (Delete path version) is small fit = delete_fits most t path version (get t path) refl small fit

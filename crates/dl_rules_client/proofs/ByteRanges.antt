@@ -81,7 +81,8 @@ payload_spelt (Set position txid payloads) is = field_then w8 0 _ (field_then w8
 -- a stored record is spelt by bytes
 record_spelt : (r : Stored) → StoredFits r → AllBytes (record_bytes r)
 unfolding fields_and_payload
-record_spelt r is = field_then w32 _ _ (field_then w32 _ _ (field_then w64 _ _ (field_then w32 (length (payload_bytes r)) (payload_bytes r) (payload_spelt r is))))
+record_spelt r is =
+    field_then w32 _ _ (field_then w32 _ _ (field_then w64 _ _ (field_then w32 (length (payload_bytes r)) (payload_bytes r) (payload_spelt r is))))
 
 -- stored records are spelt by bytes
 records_spelt : (rs : List Stored) → AllByRecursion StoredFits rs → AllBytes (flat_map record_bytes rs)
@@ -97,7 +98,8 @@ header_spelt count size = field_then w8 1 _ (field_then w8 0 _ (field_then w16 c
 pub entry_spelt : (parts : List Stored) → AllByRecursion StoredFits parts → IsBytes (entry_bytes parts)
 entry_spelt parts each =
     let body : List ℕ = flat_map record_bytes parts in
-    bytes_are (entry_bytes parts) (both_bytes (header_bytes (length parts) (length body)) body (header_spelt (length parts) (length body)) (records_spelt parts each))
+    bytes_are (entry_bytes parts) (both_bytes (header_bytes (length parts) (length body)) body (header_spelt (length parts) (length body))
+        (records_spelt parts each))
 
 -- ---- what entries hold
 
@@ -119,7 +121,8 @@ set_held ps each =
 payload_held : (r : Stored) → AllBytes (record_bytes r) → AllBytes (payload_bytes r)
 unfolding fields_and_payload
 payload_held r each =
-    second_bytes (field w32 (length (payload_bytes r))) (payload_bytes r) (second_bytes (field w64 _) _ (second_bytes (field w32 _) _ (second_bytes (field w32 _) _ each)))
+    second_bytes (field w32 (length (payload_bytes r))) (payload_bytes r) (second_bytes (field w64 _) _
+        (second_bytes (field w32 _) _ (second_bytes (field w32 _) _ each)))
 
 -- its payloads
 stored_held : (r : Stored) → AllBytes (payload_bytes r) → StoredFits r

@@ -218,7 +218,8 @@ recover_fits x (recover.LookingFor stage) h args is =
     (λ looked. recover.after_look x looked (last_segment looked.segments)) (look_hears x.stream stage h) (λ s u. tt) tt
     (λ looked fit. recover_after_fits x looked (last_segment looked.segments) args (last_segment_fits looked.segments fit.segments))
     (look_fits x.stream stage h)
-recover_fits x (recover.RecoveringSegment args stage) h own is = recover_goes_fits x args (segment_hears args stage h) is.0 (segment_fits args stage h is.0 is.1)
+recover_fits x (recover.RecoveringSegment args stage) h own is =
+    recover_goes_fits x args (segment_hears args stage h) is.0 (segment_fits args stage h is.0 is.1)
 recover_fits x recover.RecoverDone h args is = (tt, tt)
 
 -- the stage with which a recovery begins

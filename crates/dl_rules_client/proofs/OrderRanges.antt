@@ -43,7 +43,8 @@ use Rattle.dl_schedule.specs.declared.up_to.TheConstants.{MAX_ROWS}
 use Rattle.dl_rules_client.proofs.RowRanges.{GivenFits}
 use Rattle.dl_rules_client.proofs.TellRecoveries.{IsReaderCall, open_told, recover_told, reader_move_fits}
 use Rattle.dl_rules_client.proofs.PurgeRanges.{purge_fits, purge_count}
-use Rattle.dl_rules_client.proofs.OpenRanges.{OpenArgsFit, RecoverArgsFit, OpenedFits, OpenStageFits, open_fits, open_begun, open_later, recovers_fit, FoundFits, recover_fits}
+use Rattle.dl_rules_client.proofs.OpenRanges.{OpenArgsFit, RecoverArgsFit, OpenedFits, OpenStageFits, open_fits}
+use Rattle.dl_rules_client.proofs.OpenRanges.{open_begun, open_later, recovers_fit, FoundFits, recover_fits}
 use Rattle.dl_rules_client.proofs.PurgeRanges.{purge_fits, purge_count}
 use Rattle.dl_rules_client.proofs.OpenRanges.{recover_later, truncated_fits}
 use Rattle.dl_rules_client.proofs.LogRanges.{started_fit}
@@ -243,5 +244,6 @@ order_fits me n k more now o h (Purges heard) c few name is said order fit =
     goes_to_fits me n (suc k) more now o (Purges (h ∷ heard)) (λ count. count ≤ suc k) (purge_hears o.stream (purge_stage o.stream heard) h).1
     (event.Purged me.number o.stream)
     c (order_of me (suc k) o (Purges (h ∷ heard)) name order.line (omega (arith, is))) fit
-    (purge_told o.stream (purge_stage o.stream heard) h name said) (purge_fits o.stream (purge_stage o.stream heard) h k (omega (arith, is, purge_count o.stream heard)))
+    (purge_told o.stream (purge_stage o.stream heard) h name said)
+    (purge_fits o.stream (purge_stage o.stream heard) h k (omega (arith, is, purge_count o.stream heard)))
     (λ count p. (c, (name, (omega arith, omega (arith, p, few)))))

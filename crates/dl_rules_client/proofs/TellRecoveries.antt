@@ -46,7 +46,8 @@ use Rattle.dl_types.specs.declared.refusal.Refusal.{Refusal}
 use Rattle.dl_msg.specs.declared.letters.Told.{Told}
 use Rattle.dl_schedule.specs.declared.up_to.TheConstants.{MAX_ROWS}
 use Rattle.dl_transcript.specs.Ranges.{IsU64, IsRefusal}
-use Rattle.dl_rules_stream.specs.Requests.{Request, Beginning, Completion, GetLedger, MarkLedger, CloseLedger, GetSegment, StartSegment, CompleteSegment, ListCut}
+use Rattle.dl_rules_stream.specs.Requests.{Request, Beginning, Completion, GetLedger, MarkLedger}
+use Rattle.dl_rules_stream.specs.Requests.{CloseLedger, GetSegment, StartSegment, CompleteSegment, ListCut}
 use Rattle.dl_rules_stream.specs.Locks.{lock_hears}
 use Rattle.dl_rules_stream.specs.Looks.{Looked, look_hears}
 use Rattle.dl_rules_stream.specs.Allocations.{AllocationStage, allocation_hears}

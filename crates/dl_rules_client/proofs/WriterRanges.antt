@@ -56,7 +56,8 @@ call_fits n w call h k is fit = record {
 hears_fits : (n : ℕ) (w : WriterView) (b : ℕ) (m : Msg) → 2 * n ≤ most_u64 → IsBookie b → WriterFits n w → WriterFits n (with_call w (HearsFrom b m))
 unfolding log_of
 hears_fits n w b m k from fit =
-    record { stream = fit.stream; line = fit.line; segment = fit.segment; member = fit.member; log = told_fit (set_most * n) (2 * n) (log_now w) b m k from fit.log }
+    record { stream = fit.stream; line = fit.line; segment = fit.segment; member = fit.member;
+      log = told_fit (set_most * n) (2 * n) (log_now w) b m k from fit.log }
 
 -- a client with this writer
 writer_fits : (me : ClientArgs) (n k : ℕ) (now : ClientNow) (w : WriterView) → WriterFits n w → NowFits me n k now → NowFits me n k (with_writer now w)
@@ -209,7 +210,8 @@ flushes_fits me n k now (Some w) args writer fit =
 
 -- a close goes on with its requests
 close_goes_fits : (me : ClientArgs) (n k more : ℕ) (now : ClientNow) (o : Order) (acts : Acts) (args : CloseArgs)
-    → IsClient me.number → CloseArgsFit args → OrderFits me k o → NowFits me n k now → ActsFit more acts → MoveFits me n k more (begins_close me now o acts args)
+    → IsClient me.number → CloseArgsFit args → OrderFits me k o → NowFits me n k now → ActsFit more acts
+    → MoveFits me n k more (begins_close me now o acts args)
 close_goes_fits me n k more now o acts args c is order fit acted =
     goes_fits me n k more now (order_doing o (Closes args [])) acts Any (close_first args).1 _ c
     (record { stream = order.stream; line = order.line; doing = is }) fit acted tt

@@ -63,11 +63,11 @@ impl SegmentRecovery {
         conf: Conf,
     ) -> Result<(SegmentRecovery, Turn<Recovered>), NoMemory>
         requires { IsConf conf }
-        ensures turn { let given = given_of line stream.now (option_copied member.entry) segment maxseq
-            version conf in
+        ensures turn { let given = given_of line stream.now (option_copied member.entry) segment
+            maxseq version conf in
             IfOk result (λ x. x.1 ≡ turn_of (next_by recovered_of (segment_first given).1)) }
-        ensures stands { let given = given_of line stream.now (option_copied member.entry) segment maxseq
-            version conf in
+        ensures stands { let given = given_of line stream.now (option_copied member.entry) segment
+            maxseq version conf in
             IfOk result (λ x. StandsFor (new_view given) x.0) }
     {
         let given = Given {

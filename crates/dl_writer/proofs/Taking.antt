@@ -88,7 +88,8 @@ module _ (w : LogNow) (f : LogFacts) (h : NowStands w f) where
         (takes_behind (makes_room w (set_size ps)) txid (λ position. Set position txid ps) (pending_from o txid ps)) told new
         (sym (take_fault_is w f h (set_size ps) txid) ∙ ap (λ (m : ℕ). take_fault_in f m txid) (sym ez) ∙ free)
         (takes_is w f h even txid (λ position. Set position txid ps) (pending_from o txid ps) told new refl (set_size ps)
-        (subst (λ (m : ℕ). TakesBy (fits_parts f.draft.parts m) f (Set f.draft.next txid ps) (pending_from o txid ps) (past_notice f.mode) told new) (length-set ps)
+        (subst (λ (m : ℕ). TakesBy (fits_parts f.draft.parts m) f (Set f.draft.next txid ps) (pending_from o txid ps) (past_notice f.mode) told new)
+        (length-set ps)
         (subst (λ (part : Stored). TakesBy (part_fits f part) f part (pending_from o txid ps) (past_notice f.mode) told new)
         (ap₂ (λ m l. Set m txid l) position es)
         (subst (λ (l : List Pending). TakesBy (part_fits f (Set n txid shared)) f (Set n txid shared) l (past_notice f.mode) told new) er t))))

@@ -1,5 +1,5 @@
 -- What a call does to what is kept, whatever view the writer stands for.
-use Rattle.std.specs.Prelude.{◌≡◌, ℕ, ◌+◌, ◌-◌, ◌≤◌, ◌<◌, ◌^◌, Bool, true, false, nat_lt, Option, Some, None, List, [], ◌∷◌, ◌++◌, length, map, take, drop, flat_map}
+use Rattle.std.specs.Prelude.{◌≡◌, ℕ, ◌+◌, ◌-◌, ◌≤◌, Bool, true, false, Some, List, [], ◌∷◌, ◌++◌, length, map, drop}
 use Rattle.dl_types.specs.declared.row.Row.{Row}
 use Rattle.dl_record.specs.declared.stored.Stored.{Stored}
 use Rattle.dl_record.specs.declared.stored.Stored.TheVariants.{Control}
