@@ -136,8 +136,7 @@ lines_in (Came l ∷ view) = lines_in view
 abbrev pub set_most : ℕ
 set_most = MAX_SET
 
--- A client of a world of 1 to 16 storage nodes that takes at most so many lines, and so many
--- lines and letters: the records of the
+-- A client of a world of 1 to 16 storage nodes that takes at most so many lines, and so many lines and letters: the records of the
 -- lines have numbers of 32 bits, and all that it takes can be counted in 64 bits.
 pub record ArgsFit (lines inputs : ℕ) (me : ClientArgs) : Type 0 where
   pub number : IsClient me.number
@@ -151,8 +150,8 @@ pub record ClientActsFit (acts : Acts) : Type 0 where
   pub events : AllByRecursion IsEvent acts.events
   pub letters : AllByRecursion LetterFits acts.letters
 
--- What a client does as it takes something fits, where the lines that it took are such as the
--- grammar takes, and the letters such as fit.
+-- What a client does as it takes something fits, where the lines that it took are such as the grammar takes, and the letters such as
+-- fit.
 abbrev pub ClientEventsFit : Type 0
 ClientEventsFit = (me : ClientArgs) (view : List Input) (x : Input)
     → ArgsFit (lines_in (x ∷ view)) (length (x ∷ view)) me → AllByRecursion IsInput (x ∷ view)
