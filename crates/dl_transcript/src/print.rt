@@ -16,9 +16,8 @@ use dl_types::client::ClientId;
 use dl_types::dlsn::Dlsn;
 use dl_types::memory::NoMemory;
 use dl_types::name::Name;
-use dl_types::payload::Payload;
 use dl_types::read_row::ReadRow;
-use dl_types::row::{Origin, Row};
+use dl_types::row::Origin;
 use dl_types::session::SessionId;
 use dl_types::txid::TxId;
 use std::alloc::Global;
@@ -51,13 +50,13 @@ fn put_origin(
     out: &mut Vec<u8>,
     client: ClientId,
     call: u32,
-    payload: &Payload,
+    payload: &[u8],
 ) -> Result<(), NoMemory>
     ensures { OnOk result (out.new.items ≡ out.old.items ++ print_origin client call payload.now) }
 {
     put_client(out, client)?;
     put_number(out, b' ', u64::from(call))?;
-    put_hex(out, b'\n', payload.as_slice())
+    put_hex(out, b'\n', payload)
 }
 
 /// Puts a row as it is read, and the byte `end` behind it.
@@ -148,7 +147,7 @@ fn put_took_fields(
     origin: Origin,
     stream: &Name,
     txid: TxId,
-    payload: &Payload,
+    payload: &[u8],
 ) -> Result<(), NoMemory>
     ensures { OnOk result (out.new.items ≡ out.old.items
         ++ print_fields (Event.Took origin.client origin.call stream.now txid payload.now)) }
@@ -157,7 +156,7 @@ fn put_took_fields(
     put_number(out, b' ', u64::from(origin.call))?;
     put_bytes(out, b' ', stream.as_slice())?;
     put_number(out, b' ', txid.number())?;
-    put_hex(out, b'\n', payload.as_slice())
+    put_hex(out, b'\n', payload)
 }
 
 /// Puts what a line says behind the word `grow`.
@@ -167,7 +166,7 @@ fn put_grow_fields(
     place: Dlsn,
     txid: TxId,
     origin: Origin,
-    payload: &Payload,
+    payload: &[u8],
 ) -> Result<(), NoMemory>
     ensures { OnOk result (out.new.items ≡ out.old.items
         ++ print_fields (Event.Grow stream.now place txid origin.client origin.call payload.now)) }
@@ -249,7 +248,7 @@ fn put_fields(out: &mut Vec<u8>, event: &Event) -> Result<(), NoMemory>
                 client: *client,
                 call: *call,
             };
-            put_took_fields(out, origin, stream, *txid, payload)
+            put_took_fields(out, origin, stream, *txid, payload.as_slice())
         }
         Event::Sent {
             client,
@@ -268,7 +267,7 @@ fn put_fields(out: &mut Vec<u8>, event: &Event) -> Result<(), NoMemory>
                 client: *client,
                 call: *call,
             };
-            put_grow_fields(out, stream, *place, *txid, origin, payload)
+            put_grow_fields(out, stream, *place, *txid, origin, payload.as_slice())
         }
         Event::Ack {
             client,
@@ -399,31 +398,46 @@ pub fn put_sent(
     put_sent_fields(out, client, segment, entry)
 }
 
-/// Puts the line that says that a row's record was taken for the stream, without a copy of the payload.
-pub fn put_took(out: &mut Vec<u8>, line: u32, stream: &Name, row: &Row) -> Result<(), NoMemory>
+/// Puts the line that says that a record was taken for the stream, without a copy of the payload.
+pub fn put_took(
+    out: &mut Vec<u8>,
+    line: u32,
+    origin: Origin,
+    stream: &Name,
+    txid: TxId,
+    payload: &[u8],
+) -> Result<(), NoMemory>
     ensures { OnOk result (out.new.items ≡ out.old.items ++ print_event line
-        (Event.Took row.now.origin.client row.now.origin.call stream.now row.now.txid row.now.payload)) }
+        (Event.Took origin.client origin.call stream.now txid payload.now)) }
 {
     put_verb(out, line, Verb::Took)?;
-    put_took_fields(out, row.origin, stream, row.txid, &row.payload)
+    put_took_fields(out, origin, stream, txid, payload)
 }
 
-/// Puts the line that says that the stream grew by a row.
-pub fn put_grow(out: &mut Vec<u8>, line: u32, stream: &Name, row: &Row) -> Result<(), NoMemory>
+/// Puts the line that says that the stream grew by a row, without a copy of the payload.
+pub fn put_grow(
+    out: &mut Vec<u8>,
+    line: u32,
+    stream: &Name,
+    place: Dlsn,
+    txid: TxId,
+    origin: Origin,
+    payload: &[u8],
+) -> Result<(), NoMemory>
     ensures { OnOk result (out.new.items ≡ out.old.items ++ print_event line
-        (Event.Grow stream.now row.now.place row.now.txid row.now.origin.client row.now.origin.call row.now.payload)) }
+        (Event.Grow stream.now place txid origin.client origin.call payload.now)) }
 {
     put_verb(out, line, Verb::Grow)?;
-    put_grow_fields(out, stream, row.place, row.txid, row.origin, &row.payload)
+    put_grow_fields(out, stream, place, txid, origin, payload)
 }
 
-/// Puts the line that says that a row's record is acknowledged.
-pub fn put_ack(out: &mut Vec<u8>, line: u32, row: &Row) -> Result<(), NoMemory>
-    ensures { OnOk result (out.new.items ≡ out.old.items ++ print_event line
-        (Event.Ack row.now.origin.client row.now.origin.call row.now.place)) }
+/// Puts the line that says that the record at a place is acknowledged.
+pub fn put_ack(out: &mut Vec<u8>, line: u32, origin: Origin, place: Dlsn) -> Result<(), NoMemory>
+    ensures { OnOk result (out.new.items ≡ out.old.items
+        ++ print_event line (Event.Ack origin.client origin.call place)) }
 {
     put_verb(out, line, Verb::Ack)?;
-    put_ack_fields(out, row.origin, row.place)
+    put_ack_fields(out, origin, place)
 }
 
 /// The one spelling of an event at its line of the schedule.

@@ -13,7 +13,7 @@ use dl_types::path::Path;
 use dl_types::payload::Payload;
 use dl_types::read_row::{ReadRow, ReadRows};
 use dl_types::refusal::Refusal;
-use dl_types::row::{Origin, Row};
+use dl_types::row::Origin;
 use dl_types::session::SessionId;
 use dl_types::txid::{MAX_TXID, TxId};
 use std::alloc::Global;
@@ -93,15 +93,10 @@ fn place() -> Dlsn {
     }
 }
 
-/// Record `call` of the client, at its place.
-fn written(alloc: Global, call: u32, txid: TxId, payload: &[u8]) -> Result<Row, NoMemory> {
+/// Record `call` of the client.
+fn origin(call: u32) -> Origin {
     let client = client();
-    Ok(Row {
-        place: place(),
-        txid,
-        payload: Payload::new(alloc, payload)?,
-        origin: Origin { client, call },
-    })
+    Origin { client, call }
 }
 
 /// A row as it is read.
@@ -163,15 +158,14 @@ fn writers_and_segments(rt: HostRuntime) -> Result<(), Fail> {
     let alloc = rt.alloc();
     let (client, segment, place) = (client(), 2, place());
     let name = Name::new(alloc, b"log-1")?;
-    let none = written(alloc, 1, TxId::new(MAX_TXID), b"")?;
-    let some = written(alloc, 2, TxId::new(0), &[0, 0xff])?;
+    let (least, payload) = (TxId::new(0), &[0, 0xff]);
     let mut out = Vec::new(alloc);
     put_writer(&mut out, LINE, client, &name, segment)?;
-    put_took(&mut out, LINE, &name, &none)?;
-    put_took(&mut out, LINE, &name, &some)?;
+    put_took(&mut out, LINE, origin(1), &name, TxId::new(MAX_TXID), b"")?;
+    put_took(&mut out, LINE, origin(2), &name, least, payload)?;
     put_sent(&mut out, LINE, client, segment, 3)?;
-    put_grow(&mut out, LINE, &name, &some)?;
-    put_ack(&mut out, LINE, &some)?;
+    put_grow(&mut out, LINE, &name, place, least, origin(2), payload)?;
+    put_ack(&mut out, LINE, origin(2), place)?;
     let stream = name.share()?;
     put(&mut out, Event::Committed { stream, place })?;
     let stream = name.share()?;
