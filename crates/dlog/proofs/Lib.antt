@@ -1,4 +1,5 @@
 pub mod MachineLemmas
+pub mod EntryLemmas
 pub mod RunLemmas
 pub mod ReplayLemmas
 pub mod Rules

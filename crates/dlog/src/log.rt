@@ -3,11 +3,12 @@ ghost use Rattle.std.specs.Prelude.{OnOk, nat_le, map, ◌^◌, List};
 ghost use Rattle.std.specs.List.{flat_map};
 ghost use Rattle.dlog.specs.Machine.{new_log, take, send, append, flush, confirm, entry_events};
 ghost use Rattle.dlog.specs.Machine.{grow, ack, entry_size, record_size, is_window_full};
+ghost use Rattle.dlog.specs.Entries.{rows_of, payload_bytes, head_ack};
 ghost use Rattle.dl_types.specs.declared.entry_bytes.TheConstants.{MAX_ENTRY};
 ghost use Rattle.dl_transcript.specs.Lines.{print_event, print_all};
 ghost use Rattle.dlog.specs.Counts.{HasRoom};
 
-use crate::entry::Entry;
+use crate::entry::{Entry, Head};
 use dl_transcript::event::Event;
 use dl_transcript::print::{put_ack, put_event, put_grow, put_sent, put_took};
 use dl_types::client::ClientId;
@@ -16,7 +17,7 @@ use dl_types::memory::NoMemory;
 use dl_types::name::Name;
 use dl_types::payload::{MAX_PAYLOAD, Payload};
 use dl_types::refusal::Refusal;
-use dl_types::row::{Origin, Row};
+use dl_types::row::Origin;
 use dl_types::txid::TxId;
 use std::alloc::Global;
 use std::marker::Model;
@@ -115,13 +116,13 @@ impl Log {
             );
         }
         if self.filling.fits(bytes) {
-            return self.take(txid, payload, line, out);
+            return self.take(txid, payload.as_slice(), line, out);
         }
         if self.is_window_full() {
             return self.refuse(Refusal::WindowFull, line, out);
         }
         self.send(line, out)?;
-        self.take(txid, payload, line, out)
+        self.take(txid, payload.as_slice(), line, out)
     }
 
     /// Sends the entry under way where it has a record and the window isn't full.
@@ -176,32 +177,32 @@ impl Log {
     fn take(
         &mut self,
         txid: TxId,
-        payload: Payload,
+        payload: &[u8],
         line: u32,
         out: &mut Vec<u8>,
     ) -> Result<(), NoMemory>
         requires room { self.old.taken + 1 < 2 ^ 32 }
-        requires fits { entry_size self.old.filling + record_size (length payload) ≤ MAX_ENTRY }
-        ensures state { OnOk result (self.new ≡ (take self.old txid payload).0) }
+        requires fits { entry_size self.old.filling + record_size (length payload.now) ≤ MAX_ENTRY }
+        ensures state { OnOk result (self.new ≡ (take self.old txid payload.now).0) }
         ensures shown { OnOk result
-            (out.new.items ≡ out.old.items ++ print_all line (take self.old txid payload).1) }
+            (out.new.items ≡ out.old.items ++ print_all line (take self.old txid payload.now).1) }
     {
         let call = self.taken + 1;
-        let row = Row {
+        let head = Head {
             place: Dlsn {
                 segment: SEGMENT,
                 entry: self.sent,
                 slot: self.filling.len() as u32,
             },
             txid,
-            payload,
             origin: Origin {
                 client: self.client,
                 call,
             },
+            length: payload.len() as u32,
         };
-        put_took(out, line, &self.stream, &row)?;
-        self.filling.push(row)?;
+        put_took(out, line, head.origin, &self.stream, txid, payload)?;
+        self.filling.push(head, payload)?;
         self.taken = call;
         self.last = txid;
         Ok(())
@@ -223,34 +224,55 @@ impl Log {
     }
 }
 
-/// Prints that each row stands in the stream.
-fn put_grows(out: &mut Vec<u8>, line: u32, stream: &Name, rows: &[Row]) -> Result<(), NoMemory>
-    ensures { OnOk result
-        (out.new.items ≡ out.old.items ++ print_all line (map (grow stream.now) rows.now)) }
+/// Prints that each row stands in the stream, by the heads of the rows and their payloads, one behind the other.
+fn put_grows(
+    out: &mut Vec<u8>,
+    line: u32,
+    stream: &Name,
+    heads: &[Head],
+    payloads: &[u8],
+) -> Result<(), NoMemory>
+    requires { payload_bytes heads.now ≡ length payloads.now }
+    ensures { OnOk result (out.new.items ≡ out.old.items
+        ++ print_all line (map (grow stream.now) (rows_of heads.now payloads.now))) }
 {
-    for row in rows {
-        put_grow(out, line, stream, row)?;
+    let mut left = payloads;
+    for head in heads {
+        let (payload, rest) = left.split_at(head.length as usize);
+        put_grow(
+            out,
+            line,
+            stream,
+            head.place,
+            head.txid,
+            head.origin,
+            payload,
+        )?;
+        left = rest;
     }
     Ok(())
 }
 
-/// Prints that each row is acknowledged.
-fn put_acks(out: &mut Vec<u8>, line: u32, rows: &[Row]) -> Result<(), NoMemory>
-    ensures { OnOk result (out.new.items ≡ out.old.items ++ print_all line (map ack rows.now)) }
+/// Prints that the row of each head is acknowledged.
+fn put_acks(out: &mut Vec<u8>, line: u32, heads: &[Head]) -> Result<(), NoMemory>
+    ensures { OnOk result
+        (out.new.items ≡ out.old.items ++ print_all line (map head_ack heads.now)) }
 {
-    for row in rows {
-        put_ack(out, line, row)?;
+    for head in heads {
+        put_ack(out, line, head.origin, head.place)?;
     }
     Ok(())
 }
 
 /// Prints that an entry is confirmed.
-fn put_entry(out: &mut Vec<u8>, line: u32, stream: &Name, rows: &[Row]) -> Result<(), NoMemory>
+fn put_entry(out: &mut Vec<u8>, line: u32, stream: &Name, entry: &Entry) -> Result<(), NoMemory>
     ensures { OnOk result
-        (out.new.items ≡ out.old.items ++ print_all line (entry_events stream.now rows.now)) }
+        (out.new.items ≡ out.old.items ++ print_all line (entry_events stream.now entry.now)) }
 {
-    put_grows(out, line, stream, rows)?;
-    put_acks(out, line, rows)
+    let (heads, payloads) = entry.parts();
+    put_grows(out, line, stream, heads, payloads)?;
+    put_acks(out, line, heads)?;
+    Ok(())
 }
 
 /// Prints that the entries are confirmed, in order.
@@ -264,7 +286,7 @@ fn put_entries(
         ++ print_all line (flat_map (entry_events stream.now) entries.now)) }
 {
     for entry in entries {
-        put_entry(out, line, stream, entry.rows())?;
+        put_entry(out, line, stream, entry)?;
     }
     Ok(())
 }

@@ -1,8 +1,9 @@
 use Rattle.std.proofs.Common.{◌≡◌, ◌++◌, drop}
 use Rattle.std.specs.Prelude.{map}
 use Rattle.dl_transcript.specs.Lines.{print_all}
-use Rattle.dlog.specs.Machine.{ack}
+use Rattle.dlog.specs.Entries.{head_ack}
 use Rattle.dlog.proofs.log.put_acks.Given as goal
 
-abbrev pub invariant-loop-row : goal.invariant-loop-row
-invariant-loop-row l = l.out.items ++ print_all l.line (map ack (drop l.row-index l.rows)) ≡ l.fn.out.items ++ print_all l.line (map ack l.rows)
+abbrev pub invariant-loop-head : goal.invariant-loop-head
+invariant-loop-head l = l.out.items ++ print_all l.line (map head_ack (drop l.head-index l.heads)) ≡ l.fn.out.items
+    ++ print_all l.line (map head_ack l.heads)
