@@ -1,0 +1,4 @@
+pub mod Failures
+pub mod Kept
+pub mod Lifting
+pub mod Rows
