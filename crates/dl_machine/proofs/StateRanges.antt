@@ -939,6 +939,6 @@ atom_fits n m i j s (Loosen b other) h g few small is fit =
     still_fits n i m j _ (omega (arith, h)) (omega (arith, g)) (node_fits n i s b _ (loosened_fits b (s.nodes b) (s.nodes b).mode other (fit.nodes b)) fit) tt
 atom_fits n m i j s (Lose b) h g few small is fit =
     still_fits n i m j _ (omega (arith, h)) (omega (arith, g))
-    (node_fits n i s b (lost_node (s.nodes b)) 
+    (node_fits n i s b (lost_node (s.nodes b))
     (record { bookie = after_stop_fits b (s.nodes b).bookie false (fit.nodes b).bookie; other = (fit.nodes b).other }) fit) tt
 atom_fits n m i j s (Shows e) h g few small is fit = still_fits n i m j _ (omega (arith, h)) (omega (arith, g)) fit (is, tt)

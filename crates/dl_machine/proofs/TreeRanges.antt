@@ -197,8 +197,7 @@ child_fits most t session path bytes mode parent is there fit =
     let made : List ℕ = made_path path mode parent in
     cond_both D (is_some parent.owner) (Err EphemeralParent) _ tt
     (cond_both D (is_counted mode && nat_le (10 ^ 10) parent.counter) (Err Spent) _ tt
-    (cond_both D (is_some (get t made)) (Err NodeExists) _ tt
-    (
+    (cond_both D (is_some (get t made)) (Err NodeExists) _ tt (
       tree_path_has_form made (is.0 parent),
       insert_fits (suc most) (insert t (parent_of path) (parent_after mode parent)) made (new_node bytes mode session)
           (record { at = is.0 parent; bytes = is.1; version = omega arith })
@@ -245,8 +244,7 @@ set_fits most t path bytes version (Some n) there are fit =
         → DoneFits (suc (suc most)) (cond b (Err Spent) (Ok (Version (n.version + 1), insert t path (record n { bytes = bytes; version = n.version + 1 }))))
     go true last = tt
     go false more =
-        let other : n.version ≡ 18446744073709551615 → ⊥ = eqb-false n.version (2 ^ 64 - 1) more in
-        (
+        let other : n.version ≡ 18446744073709551615 → ⊥ = eqb-false n.version (2 ^ 64 - 1) more in (
           tt,
           tree_more (suc most) (suc (suc most)) (insert t path (record n { bytes = bytes; version = n.version + 1 })) (omega arith)
               (insert_fits most t path (record n { bytes = bytes; version = n.version + 1 })

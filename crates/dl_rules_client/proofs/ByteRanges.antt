@@ -99,7 +99,7 @@ pub entry_spelt : (parts : List Stored) → AllByRecursion StoredFits parts → 
 entry_spelt parts each =
     let body : List ℕ = flat_map record_bytes parts in
     bytes_are (entry_bytes parts) (both_bytes (header_bytes (length parts) (length body)) body (header_spelt (length parts) (length body))
-        (records_spelt parts each))
+    (records_spelt parts each))
 
 -- ---- what entries hold
 
@@ -122,7 +122,7 @@ payload_held : (r : Stored) → AllBytes (record_bytes r) → AllBytes (payload_
 unfolding fields_and_payload
 payload_held r each =
     second_bytes (field w32 (length (payload_bytes r))) (payload_bytes r) (second_bytes (field w64 _) _
-        (second_bytes (field w32 _) _ (second_bytes (field w32 _) _ each)))
+    (second_bytes (field w32 _) _ (second_bytes (field w32 _) _ each)))
 
 -- its payloads
 stored_held : (r : Stored) → AllBytes (payload_bytes r) → StoredFits r

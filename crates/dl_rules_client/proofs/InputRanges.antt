@@ -115,7 +115,7 @@ order_line_fits me n k now line (step.Create c s) args is fit =
     begins_fits me (suc n) k 1 now line s (Makes []) (λ o. (make_first s).1) args.number is.0 is.1.1 tt is.1.1 (now_more me n k (suc n) now (omega arith) fit)
 order_line_fits me n k now line (step.Remove c s) args is fit =
     begins_fits me (suc n) k 1 now line s (Removes []) (λ o. (remove_first s).1) args.number is.0 is.1.1 tt is.1.1
-        (now_more me n k (suc n) now (omega arith) fit)
+    (now_more me n k (suc n) now (omega arith) fit)
 order_line_fits me n k now line (step.Open c s) args is fit =
     let next = now_more me n k (suc n) now (omega arith) fit in
     begins_open_fits me (suc n) k 1 now line s now.writer args.number is.0 is.1.1 next.writer next

@@ -56,8 +56,13 @@ call_fits n w call h k is fit = record {
 hears_fits : (n : ℕ) (w : WriterView) (b : ℕ) (m : Msg) → 2 * n ≤ most_u64 → IsBookie b → WriterFits n w → WriterFits n (with_call w (HearsFrom b m))
 unfolding log_of
 hears_fits n w b m k from fit =
-    record { stream = fit.stream; line = fit.line; segment = fit.segment; member = fit.member;
-      log = told_fit (set_most * n) (2 * n) (log_now w) b m k from fit.log }
+    record {
+      stream = fit.stream;
+      line = fit.line;
+      segment = fit.segment;
+      member = fit.member;
+      log = told_fit (set_most * n) (2 * n) (log_now w) b m k from fit.log;
+    }
 
 -- a client with this writer
 writer_fits : (me : ClientArgs) (n k : ℕ) (now : ClientNow) (w : WriterView) → WriterFits n w → NowFits me n k now → NowFits me n k (with_writer now w)

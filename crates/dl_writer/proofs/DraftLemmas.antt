@@ -153,9 +153,9 @@ pub pending_from-push : (o : Origin) (txid : ℕ) (ps : List (List ℕ)) (p : Li
 pending_from-push o txid [] p = ap (λ (n : ℕ). record { origin = record o { call = n }; txid = txid; payload = p } ∷ []) (sym (add-zero o.call))
 pending_from-push o txid (q ∷ ps) p =
     ap (λ (l : List Pending). record { origin = o; txid = txid; payload = q } ∷ l) (
-      pending_from-push (record o { call = o.call + 1 }) txid ps p
-      ∙ ap (λ (n : ℕ). pending_from (record o { call = o.call + 1 }) txid ps
-      ++ record { origin = record o { call = n }; txid = txid; payload = p } ∷ []) (omega arith)
+    pending_from-push (record o { call = o.call + 1 }) txid ps p
+    ∙ ap (λ (n : ℕ). pending_from (record o { call = o.call + 1 }) txid ps
+    ++ record { origin = record o { call = n }; txid = txid; payload = p } ∷ []) (omega arith)
     )
 
 -- one record more stands in the next slot
@@ -164,8 +164,8 @@ pub rows_at-push : (segment entry slot : ℕ) (ps : List Pending) (p : Pending)
 rows_at-push segment entry slot [] p = ap (λ (n : ℕ). row_at (place segment entry n) p ∷ []) (sym (add-zero slot))
 rows_at-push segment entry slot (q ∷ ps) p =
     ap (λ (l : List Row). row_at (place segment entry slot) q ∷ l) (
-      rows_at-push segment entry (suc slot) ps p
-      ∙ ap (λ (n : ℕ). rows_at segment entry (suc slot) ps ++ row_at (place segment entry n) p ∷ []) (omega arith)
+    rows_at-push segment entry (suc slot) ps p
+    ∙ ap (λ (n : ℕ). rows_at segment entry (suc slot) ps ++ row_at (place segment entry n) p ∷ []) (omega arith)
     )
 
 -- the rows of one record more of a list

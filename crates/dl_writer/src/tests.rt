@@ -151,10 +151,16 @@ fn run(alloc: Global, writer: &mut LogWriter, line: &str) -> Result<String, NoMe
     let number = u64::from(number_of(second));
     if verb == "append" {
         let payload = bytes_of(alloc, usize::from(number_of(third)))?;
-        tell_answer(&mut out, writer.append(origin(call), TxId::new(number), &payload))?;
+        tell_answer(
+            &mut out,
+            writer.append(origin(call), TxId::new(number), &payload),
+        )?;
     } else if verb == "set" {
         let payloads = pair(alloc)?;
-        tell_answer(&mut out, writer.append_set(origin(call), TxId::new(number), &payloads))?;
+        tell_answer(
+            &mut out,
+            writer.append_set(origin(call), TxId::new(number), &payloads),
+        )?;
     } else if verb == "flush" {
         tell_answer(&mut out, writer.flush())?;
     } else if verb == "commit" {

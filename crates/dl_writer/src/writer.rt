@@ -25,7 +25,9 @@ use crate::draft::Draft;
 use crate::going::{Going, next_going};
 use crate::mode::Mode;
 use crate::refusing::{check_record, check_writer};
-use crate::sending::{drop_front, first_spots, placed_rows, send_on, share_all, spots_of, taken_from};
+use crate::sending::{
+    drop_front, first_spots, placed_rows, send_on, share_all, spots_of, taken_from,
+};
 use crate::sent::Sent;
 use crate::taken::Taken;
 use crate::write_fault::WriteFault;
