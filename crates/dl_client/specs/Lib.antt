@@ -1,0 +1,5 @@
+pub mod Facts
+pub mod Outgoing
+pub mod Shown
+pub mod Standing
+pub mod Moves
