@@ -11,13 +11,13 @@ GATE, BEFORE_BODY, BEFORE_LENGTH = 1_000, 13, 9
 ADD, COPY, FENCE = 1, 2, 3
 
 
-def place(body):
-    """The place of the first fault in the file, or none."""
+def first_fault(gate, body):
+    """The place of the first fault in the file, or none, where the gate of the batch stands at this place."""
     def found(at):
-        return GATE + BEFORE_BODY + at
+        return gate + BEFORE_BODY + at
 
     if not body:
-        return GATE + BEFORE_LENGTH
+        return gate + BEFORE_LENGTH
     at = 0
     while at < len(body):
         kind = body[at]
@@ -37,6 +37,10 @@ def place(body):
                 return found(at + flaw)
             at += size
     return None
+
+
+def place(body):
+    return first_fault(GATE, body)
 
 
 def entry(*records):

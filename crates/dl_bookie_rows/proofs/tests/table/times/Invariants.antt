@@ -1,0 +1,7 @@
+use Rattle.dl_depot.specs.Memory.{view_by}
+use Rattle.dl_journal.specs.Settled.{Stands}
+use Rattle.dl_bookie_rows.proofs.tests.table.times.Given as goal
+
+-- the node's journal stands for the batches of its file
+abbrev pub invariant-times : goal.invariant-times
+invariant-times l = Stands (view_by l.world.depot) l.world.node.journal
