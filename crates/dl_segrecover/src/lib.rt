@@ -10,3 +10,5 @@ mod last_entry;
 pub mod recovered;
 pub mod segment_recovery;
 mod stage;
+#[cfg(test)]
+mod tests;

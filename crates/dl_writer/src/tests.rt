@@ -1,16 +1,23 @@
+ghost use Rattle.std.specs.Prelude.{◌≡◌, ◌≤◌};
+
+use crate::acked::{Acked, Spots};
 use crate::write_fault::WriteFault;
 use crate::writer::LogWriter;
+use crate::writer_state::WriterState;
 use dl_lwrite::writer::LedgerWriter;
 use dl_msg::letters::Letters;
 use dl_msg::msg::Msg;
+use dl_types::bookie::BookieId;
 use dl_types::client::ClientId;
 use dl_types::ensemble::Ensemble;
 use dl_types::memory::NoMemory;
+use dl_types::payload::Payload;
 use dl_types::quorum::Quorum;
 use dl_types::refusal::Refusal;
 use dl_types::row::Origin;
 use dl_types::txid::TxId;
 use std::alloc::Global;
+use std::process::Abort;
 use std::test::Fail;
 
 /// A writer of segment 3, behind the id 4, whose ledger is that of number 7 with three bookies, which each get every entry and two of
@@ -19,6 +26,19 @@ fn new_writer(alloc: Global) -> Result<LogWriter, Fail> {
     let q = Quorum::new(3, 3, 2)?;
     let ledger = LedgerWriter::start(alloc, 7, q, Ensemble::of(7, 3, 3))?;
     Ok(LogWriter::start(alloc, 3, TxId::new(4), ledger)?)
+}
+
+/// What stands before the first space, and what stands after it.
+fn cut(text: &str) -> (&str, &str) {
+    text.split_once(' ').unwrap_or((text, ""))
+}
+
+/// The number of a word, or 0.
+fn number_of(word: &str) -> u16 {
+    match word.parse::<u16>() {
+        Ok(number) => number,
+        Err(_) => 0,
+    }
 }
 
 fn tell_letters(out: &mut String, letters: &Letters) -> Result<(), NoMemory> {
@@ -61,18 +81,189 @@ fn tell_answer(out: &mut String, answer: Result<Letters, WriteFault>) -> Result<
     }
 }
 
-/// The origin of a record.
-fn origin() -> Origin {
+fn tell_spots(out: &mut String, spots: &Spots) -> Result<(), NoMemory> {
+    for (origin, place) in spots.as_slice() {
+        let call = origin.call;
+        let entry = place.entry;
+        let slot = place.slot;
+        write!(out, " {call}@{entry}.{slot}")?;
+    }
+    Ok(())
+}
+
+fn tell_acked(out: &mut String, acked: &Acked) -> Result<(), NoMemory> {
+    let confirmed = acked.confirmed;
+    write!(out, " {confirmed}")?;
+    tell_spots(out, &acked.rows)?;
+    tell_letters(out, &acked.letters)
+}
+
+fn tell_state(out: &mut String, state: WriterState) -> Result<(), NoMemory> {
+    match state {
+        WriterState::Open => out.push_str("; open")?,
+        WriterState::Committing => out.push_str("; committing")?,
+        WriterState::Committed(control) => write!(out, "; committed {control}")?,
+        WriterState::Closing => out.push_str("; closing")?,
+        WriterState::Closable {
+            entries,
+            rows,
+            last,
+        } => {
+            let last = last.number();
+            write!(out, "; closable {entries} {rows} {last}")?;
+        }
+        WriterState::Fenced(bookie) => write!(out, "; fenced {bookie}")?,
+    }
+    Ok(())
+}
+
+/// An origin with this number of a call.
+fn origin(call: u16) -> Origin
+    ensures { result.call ≡ call }
+{
     Origin {
         client: ClientId::new(5),
-        call: 1,
+        call: u32::from(call),
     }
+}
+
+/// Takes a set of two payloads, of one and two bytes.
+fn take_pair(
+    alloc: Global,
+    writer: &mut LogWriter,
+    out: &mut String,
+    call: u16,
+    txid: TxId,
+) -> Result<(), NoMemory>
+    requires rows { writer.old.draft.next ≤ 1000 }
+    requires entries { writer.old.ledger.sent ≤ 1000 }
+{
+    let one = Payload::new(alloc, b"c")?;
+    let two = Payload::new(alloc, b"de")?;
+    let told = writer.append_set(origin(call), txid, &[one, two]);
+    tell_answer(out, told)
 }
 
 /// So many bytes.
 fn bytes_of(alloc: Global, len: usize) -> Result<Vec<u8>, NoMemory> {
     let bytes = vec![in alloc; 7; len]?;
     Ok(bytes)
+}
+
+/// What a line gives: `append CALL TXID LENGTH`, `set CALL TXID`, `flush`, `commit`, `close`, `ok BOOKIE ENTRY` or `fenced BOOKIE ENTRY`;
+/// then the state.
+fn run(alloc: Global, writer: &mut LogWriter, line: &str) -> Result<String, NoMemory> {
+    let mut out = String::new(alloc);
+    if writer.rows() > 1000 || writer.entries() > 1000 {
+        return Err(NoMemory);
+    }
+    let (verb, rest) = cut(line);
+    let (first, rest) = cut(rest);
+    let (second, third) = cut(rest);
+    let call = number_of(first);
+    let number = u64::from(number_of(second));
+    if verb == "append" {
+        let payload = bytes_of(alloc, usize::from(number_of(third)))?;
+        tell_answer(
+            &mut out,
+            writer.append(origin(call), TxId::new(number), &payload),
+        )?;
+    } else if verb == "set" {
+        take_pair(alloc, writer, &mut out, call, TxId::new(number))?;
+    } else if verb == "flush" {
+        tell_answer(&mut out, writer.flush())?;
+    } else if verb == "commit" {
+        tell_answer(&mut out, writer.commit())?;
+    } else if verb == "close" {
+        tell_answer(&mut out, writer.close())?;
+    } else {
+        let msg = if verb == "ok" {
+            Msg::AddOk {
+                ledger: 7,
+                entry: number,
+            }
+        } else {
+            Msg::AddFenced {
+                ledger: 7,
+                entry: number,
+            }
+        };
+        let acked = writer.hear(BookieId::new(if call < 3 { call as u8 } else { 2 }), &msg)?;
+        tell_acked(&mut out, &acked)?;
+    }
+    tell_state(&mut out, writer.state())?;
+    Ok(out)
+}
+
+/// Calls of one writer, and behind ` =>` what each gives: letters as the bookie, and the entry, the confirmed count and the length
+/// that they carry; rows that are confirmed as their call, entry and slot, behind the confirmed count; and the state.
+fn rows() -> &'static str {
+    "
+# nothing is sent where nothing was taken, and an id that falls is refused
+flush =>; open
+append 1 5 2 =>; open
+append 2 4 1 => back; open
+# the members of a set take successive slots of one entry
+set 2 5 =>; open
+flush => 1<0/0/65 2<0/0/65 0<0/0/65; open
+# the control entry waits until all that was sent is confirmed, and a record that comes meanwhile stays behind it
+commit =>; committing
+append 4 6 1 =>; committing
+ok 0 0 => 0; committing
+ok 1 0 => 1 1@0.0 2@0.1 3@0.2 2<1/1/28 0<1/1/28 1<1/1/28; committing
+# an acknowledgement is told once
+ok 2 0 => 1; committing
+ok 1 1 => 1; committing
+ok 2 1 => 2; committed 1
+# the notice of a commit ends with the next call
+flush => 0<2/2/29 1<2/2/29 2<2/2/29; open
+close =>; closing
+append 9 9 1 => no writer; closing
+ok 0 2 => 2; closing
+ok 1 2 => 3 4@2.0; closable 3 4 6
+fenced 1 2 => 3; closable 3 4 6
+flush => no writer; closable 3 4 6
+"
+}
+
+/// Runs rows on a writer, and says how many there were.
+fn run_rows(rt: &impl Abort, alloc: Global, rows: &str) -> Result<u32, Fail> {
+    let mut writer = new_writer(alloc)?;
+    let mut count = 0u32;
+    for row in rows.lines() {
+        let Some((line, want)) = row.split_once(" =>") else {
+            continue;
+        };
+        let told = run(alloc, &mut writer, line)?;
+        assert_eq!(rt; told.as_str(), want, "at {line}");
+        count = count.saturating_add(1);
+    }
+    Ok(count)
+}
+
+#[test]
+fn each_row_of_calls(rt: HostRuntime) -> Result<(), Fail> {
+    let count = run_rows(&rt, rt.alloc(), rows())?;
+    assert_eq!(rt; count, 19);
+    Ok(())
+}
+
+/// A fence is named by the first bookie that told of it, and what was taken is not sent.
+fn fenced_rows() -> &'static str {
+    "
+append 1 5 2 =>; open
+fenced 2 0 => 0; fenced 2
+fenced 1 0 => 0; fenced 2
+append 2 9 1 => fenced 2; fenced 2
+close => fenced 2; fenced 2
+"
+}
+
+#[test]
+fn names_the_first_fence(rt: HostRuntime) -> Result<(), Fail> {
+    let count = run_rows(&rt, rt.alloc(), fenced_rows())?;
+    assert_eq!(rt; count, 5);
+    Ok(())
 }
 
 /// What taking payloads of these lengths gives, one after the other, and a flush behind them.
@@ -84,7 +275,7 @@ fn lengths(alloc: Global, lens: &[usize]) -> Result<String, Fail> {
             return Err("many".into());
         }
         let payload = bytes_of(alloc, *len)?;
-        tell_answer(&mut out, writer.append(origin(), TxId::new(5), &payload))?;
+        tell_answer(&mut out, writer.append(origin(1), TxId::new(5), &payload))?;
         out.push(';')?;
     }
     if writer.entries() > 1000 {
@@ -106,5 +297,19 @@ fn fills_an_entry(rt: HostRuntime) -> Result<(), Fail> {
     assert_eq!(rt; told.as_str(), want);
     let told = lengths(alloc, &[1_040_385])?;
     assert_eq!(rt; told.as_str(), " too long 1040385;");
+    Ok(())
+}
+
+#[test]
+fn keeps_the_last_entry(rt: HostRuntime) -> Result<(), Fail> {
+    let alloc = rt.alloc();
+    let mut writer = new_writer(alloc)?;
+    assert!(rt; writer.last().is_none());
+    let _told = run(alloc, &mut writer, "set 2 5")?;
+    let _told = run(alloc, &mut writer, "flush")?;
+    if let Some(sent) = writer.last() {
+        assert_eq!(rt; sent.entry, 0);
+        assert_eq!(rt; sent.rows.as_slice().len(), 2);
+    }
     Ok(())
 }
