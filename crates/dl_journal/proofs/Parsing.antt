@@ -42,6 +42,14 @@ framed_is due more body number size are number_is size_is twelve fits body_is du
           ∙ ap (λ (n : ℕ). frame_of number body ++ drop (12 + n) more) (sym len);
     }
 
+-- a body of the file, told from the bytes behind its gate
+pub body_behind : (bytes more : List ℕ) (at size : ℕ) → more ≡ drop at bytes
+    → take (at + 12 + size - (at + 12)) (drop (at + 12) bytes) ≡ take (12 + size - 12) (drop 12 more)
+body_behind bytes more at size same =
+    let count : at + 12 + size - (at + 12) ≡ 12 + size - 12 = omega arith in
+    let here : drop 12 more ≡ drop (at + 12) bytes = ap (drop 12) same ∙ drop-drop 12 at bytes in
+    ap (λ (n : ℕ). take n (drop (at + 12) bytes)) count ∙ ap (take (12 + size - 12)) (sym here)
+
 -- one batch more
 pub record Grown (bytes : List ℕ) (at : ℕ) (batches : List Batch) (b : Batch) : Type 0 where
   pub first : ℕ

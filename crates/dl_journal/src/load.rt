@@ -62,7 +62,7 @@ impl Journal {
             Ok(bytes) => bytes,
             Err(fault) => return Err(fault),
         };
-        match parse(alloc, &bytes) {
+        match parse(alloc, bytes) {
             Ok(contents) => {
                 let journal = Journal::at(file, contents.gate, contents.next);
                 Ok((journal, contents.batches))

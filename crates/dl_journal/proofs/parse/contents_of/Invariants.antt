@@ -1,7 +1,7 @@
 use Rattle.std.proofs.Common.{◌≡◌, ◌≤◌, ◌+◌, ◌-◌, ◌++◌, ℕ, length, drop}
 use Rattle.dl_journal.specs.Batches.{magic, spell, Runs}
 use Rattle.dl_journal.specs.Reading.{due_of}
-use Rattle.dl_journal.proofs.parse.parse.Given as goal
+use Rattle.dl_journal.proofs.parse.contents_of.Given as goal
 
 abbrev pub invariant-loop-at : goal.invariant-loop-at
 invariant-loop-at l = record {
