@@ -1,6 +1,6 @@
 -- The table of entries counts one item more.
 use Rattle.std.proofs.Common.{◌≡◌, ℕ, ◌+◌, ◌<◌, ◌≤◌, ◌⊎◌, inl, inr, Bool, true, false, not, ◌==◌, ◌&&◌, ◌||◌, if◌then◌else◌, List, [], ◌∷◌, ◌++◌, length}
-use Rattle.std.proofs.Common.{Option, Some, None, is_some, refl, sym, ap, ◌∙◌, arith, append-nil, append_assoc}
+use Rattle.std.proofs.Common.{Option, Some, None, is_some, refl, sym, ap, subst, ◌∙◌, arith, append-nil, append_assoc}
 use Rattle.std.proofs.Math.Bool.{or-false, or-true}
 use Rattle.std.specs.List.{list_any}
 use Rattle.std.proofs.lemmas.Bool.{eqb-true}
@@ -26,7 +26,7 @@ use Rattle.dl_marks.proofs.KeepLemmas.{place_push}
 use Rattle.dl_marks.proofs.MoveLemmas.{or_assoc, or_nothing}
 use Rattle.dl_marks.proofs.MovedLemmas.{from_push}
 use Rattle.dl_restore.specs.Bodies.{all_of}
-use Rattle.dl_restore.specs.Entries.{entry_added, EntryAdded, NoEntryRoom, AddsEntryOf, EntriesHold}
+use Rattle.dl_restore.specs.Entries.{entry_added, EntryAdded, NoEntryRoom, AddsEntryOf, CountsEntry, EntriesHold, BatchAdded, BatchesAdded}
 
 -- ---- marks
 
@@ -197,7 +197,7 @@ few_step old new most there few now (inl less) = omega (arith, now, less, at_mos
 few_step old new most there few now (inr is) = omega (arith, now, few, ap one_unless is)
 
 -- the table with one item more
-pub entry_step : (before : List (List Item)) (done : List Item) (h : Head) (bytes : List ℕ) (old new : Entries)
+entry_step : (before : List (List Item)) (done : List Item) (h : Head) (bytes : List ℕ) (old new : Entries)
     → EntriesHold before done old → AddsEntryOf old new h (place_after before done (item_of h bytes)) true
     → EntriesHold before (done ++ item_of h bytes ∷ []) new
 entry_step before done (head.Add l e n) bytes old new holds now = record {
@@ -233,30 +233,54 @@ unfolding count_new
 count_more new seen [] ys = omega arith
 count_more new seen (x ∷ xs) ys = omega (arith, count_more new (seen ++ x ∷ []) xs ys)
 
--- without room there are too many entries, whatever follows
-pub entry_full : (before : List (List Item)) (done todo : List Item) (h : Head) (bytes : List ℕ) (old new : Entries) (place : Place)
-    → EntriesHold before done old → AddsEntryOf old new h place false → most_entries < entries_count (all_of before ++ (done ++ item_of h bytes ∷ todo))
-entry_full before done todo h bytes old new place holds none =
-    omega (arith, past, count_more is_new_entry [] ((all_of before ++ done) ++ item_of h bytes ∷ []) todo, ap entries_count same)
+-- without room there are too many entries
+entry_full : (before : List (List Item)) (done : List Item) (h : Head) (bytes : List ℕ) (old new : Entries) (place : Place)
+    → EntriesHold before done old → AddsEntryOf old new h place false → most_entries < entries_count (all_of before ++ (done ++ item_of h bytes ∷ []))
+entry_full before done h bytes old new place holds none = each h none
   where
-    same : ((all_of before ++ done) ++ item_of h bytes ∷ []) ++ todo ≡ all_of before ++ (done ++ item_of h bytes ∷ todo)
-    same = append_assoc (all_of before ++ done) (item_of h bytes ∷ []) todo ∙ append_assoc (all_of before) done (item_of h bytes ∷ todo)
-
     over : (x : Item) (m f : ℕ) → ((seen : List Item) → is_new_entry x seen ≡ not (list_any (is_entry m f) seen)) → NoEntryRoom old m f
-        → most_entries < entries_count ((all_of before ++ done) ++ x ∷ [])
+        → most_entries < entries_count (all_of before ++ (done ++ x ∷ []))
     over x m f is room =
         let missing : list_any (is_entry m f) (all_of before ++ done) ≡ false = sym (there_by before done old m f holds)
         ∙ ap (λ (o : Option EntryMarks). is_some o) room.missing in
         let one : one_if (is_new_entry x (all_of before ++ done)) ≡ 1 = ap one_if (is (all_of before ++ done) ∙ ap not missing) in
-        omega (arith, one, entries_push (all_of before ++ done) x, holds.count, room.full)
+        omega (
+          arith,
+          one,
+          entries_push (all_of before ++ done) x,
+          holds.count,
+          room.full,
+          ap entries_count (append_assoc (all_of before) done (x ∷ [])),
+        )
 
-    each : (h : Head) → AddsEntryOf old new h place false → most_entries < entries_count ((all_of before ++ done) ++ item_of h bytes ∷ [])
+    each : (h : Head) → AddsEntryOf old new h place false → most_entries < entries_count (all_of before ++ (done ++ item_of h bytes ∷ []))
     each (head.Add l e n) none = over (AddItem l e n bytes) l e (λ seen. refl) none
     each (head.Copy l e n) none = over (CopyItem l e n bytes) l e (λ seen. refl) none
     each (head.Fence l) none = absurd none
 
-    past : most_entries < entries_count ((all_of before ++ done) ++ item_of h bytes ∷ [])
-    past = each h none
+-- the place of an entry, by how much is counted before its item
+place_is : (h : Head) (bytes : List ℕ) (at n : ℕ) (old new : Entries) → at ≡ n → AddsEntryOf old new h (record { at = at + 29; size = length bytes }) true
+    → AddsEntryOf old new h (record { at = n + 29; size = length (entry_in (item_of h bytes)) }) true
+place_is (head.Add l e c) bytes at n old new same a =
+    subst (λ (k : ℕ). AddsEntryOf old new (head.Add l e c) (record { at = k + 29; size = length bytes }) true) same a
+place_is (head.Copy l e c) bytes at n old new same a =
+    subst (λ (k : ℕ). AddsEntryOf old new (head.Copy l e c) (record { at = k + 29; size = length bytes }) true) same a
+place_is (head.Fence l) bytes at n old new same a = a
+
+-- one item more is counted, or there are too many entries
+pub entry_counted : (before : List (List Item)) (done : List Item) (h : Head) (bytes : List ℕ) (at : ℕ) (old new : Entries) (had has : Bool)
+    → at ≡ gate_of before + 13 + items_length done → CountsEntry had old new h (record { at = at + 29; size = length bytes }) has
+    → BatchAdded before done old had → BatchAdded before (done ++ item_of h bytes ∷ []) new has
+entry_counted before done h bytes at old new true true place now was =
+    entry_step before done h bytes old new was (place_is h bytes at (gate_of before + 13 + items_length done) old new place now)
+entry_counted before done h bytes at old new true false place now was = entry_full before done h bytes old new (record { at = at + 29; size = length bytes }) was now
+entry_counted before done h bytes at old new false true place now was = absurd now
+entry_counted before done h bytes at old new false false place now was = omega (
+  arith,
+  was,
+  count_more is_new_entry [] (all_of before ++ done) (item_of h bytes ∷ []),
+  ap entries_count (append_assoc (all_of before) done (item_of h bytes ∷ [])),
+)
 
 -- ---- a batch
 
@@ -265,7 +289,7 @@ pub all_push : (before : List (List Item)) (items : List Item) → all_of (befor
 all_push before items = flat_map-append (λ (b : List Item). b) before (items ∷ []) ∙ ap (λ (xs : List Item). all_of before ++ xs) (append-nil items)
 
 -- all items of a batch are counted
-pub entries_next : (before : List (List Item)) (items : List Item) (entries : Entries) → EntriesHold before items entries
+entries_next : (before : List (List Item)) (items : List Item) (entries : Entries) → EntriesHold before items entries
     → EntriesHold (before ++ items ∷ []) [] entries
 entries_next before items entries holds = record {
   each = λ l e. holds.each l e ∙ (λ i. entry_known (all i) [] [] (place l e i) l e);
@@ -278,6 +302,17 @@ entries_next before items entries holds = record {
 
     place : (l e : ℕ) → place_by before items l e ≡ place_by (before ++ items ∷ []) [] l e
     place l e = sym (or_nothing (place_of (before ++ items ∷ []) l e) ∙ from_push 8 before items l e)
+
+-- all items of a batch are counted, or there are too many entries
+pub batch_counted : (before : List (List Item)) (items : List Item) (entries : Entries) (room : Bool) → BatchAdded before items entries room
+    → BatchesAdded (before ++ items ∷ []) entries room
+batch_counted before items entries true holds = entries_next before items entries holds
+batch_counted before items entries false many = omega (arith, many, ap entries_count (all_push before items))
+
+-- before the first item of a batch those of the batches before it are counted
+pub batch_begins : (before : List (List Item)) (entries : Entries) (room : Bool) → BatchesAdded before entries room → BatchAdded before [] entries room
+batch_begins before entries true holds = holds
+batch_begins before entries false many = omega (arith, many, ap entries_count (append-nil (all_of before)))
 
 -- no items have no entries
 no_entries : 0 ≡ entries_count []

@@ -1,17 +1,14 @@
 -- The table of ledgers counts one item more.
-use Rattle.std.proofs.Common.{◌≡◌, ℕ, ◌+◌, ◌<◌, max, Bool, true, false, not, ◌==◌, ◌||◌, if◌then◌else◌, List, [], ◌∷◌, ◌++◌, length, Option}
+use Rattle.std.proofs.Common.{◌≡◌, ℕ, ◌<◌, max, Bool, true, false, not, ◌==◌, ◌||◌, if◌then◌else◌, List, [], ◌∷◌, ◌++◌, length, Option}
 use Rattle.std.proofs.Common.{Some, None, is_some, Ok, Err, refl, sym, ap, subst, ◌∙◌, arith, append-nil, append_assoc}
 use Rattle.std.proofs.Math.Bool.{or-false, or-true}
-use Rattle.std.specs.List.{list_any, AllByRecursion}
+use Rattle.std.specs.List.{list_any}
 use Rattle.std.proofs.lemmas.Bool.{eqb-true}
-use Rattle.std.proofs.lemmas.Grind.{flat_map-append}
-use Rattle.std.proofs.lemmas.List.Concat.{flat_map-cons}
 use Rattle.dl_fields.specs.declared.fault.Fault.{Fault}
 use Rattle.dl_rules_nodes.specs.Limits.{most_ledgers}
-use Rattle.dl_rules_nodes.specs.Items.{Item, item_bytes, body_of, ledger_of, is_fence, is_of, count_in, greatest, IsItem}
+use Rattle.dl_rules_nodes.specs.Items.{Item, ledger_of, is_fence, is_of, count_in, greatest}
 use Rattle.dl_rules_nodes.specs.Counts.{count_new, is_new_ledger, ledgers_count}
 use Rattle.dl_rules_nodes.specs.Reading.{item_from}
-use Rattle.dl_rules_nodes.proofs.ItemLaws.{items_are_exact}
 use Rattle.dl_items.specs.declared.head.Head.{Head}
 use Rattle.dl_items.specs.declared.head.Head.TheVariants as head
 use Rattle.dl_items.specs.Heads.{ledger_in, is_fence_head, count_of, item_of}
@@ -23,9 +20,9 @@ use Rattle.dl_marks.proofs.CountLemmas.{ledgers_push}
 use Rattle.dl_marks.proofs.KnownLemmas.{any_push, no_fence, no_count}
 use Rattle.dl_marks.proofs.MoveLemmas.{greatest_push, fence_false, count_zero, max_zero, head_of_item, fences, counts}
 use Rattle.dl_restore.specs.Bodies.{Spells, AllSpell, all_of}
-use Rattle.dl_restore.specs.Ledgers.{ledger_added, LedgerAdded, NoLedgerRoom, LedgersHold, LedgersUnderway, LedgerBatchesUnderway}
+use Rattle.dl_restore.specs.Ledgers.{ledger_added, LedgerAdded, NoLedgerRoom, CountsLedger, LedgersHold, LedgersAdded, LedgersUnderway, LedgerBatchesUnderway}
 use Rattle.dl_restore.proofs.EntryLemmas.{if_some, one_if, one_unless, one_new, few_step, count_more, all_push}
-use Rattle.dl_restore.proofs.EntryLoops.{first_is}
+use Rattle.dl_restore.proofs.EntryLoops.{first_is, ended}
 
 -- the marks by durable items alone
 abbrev settled : Bool → Bool → ℕ → Option LedgerMarks
@@ -108,28 +105,29 @@ ledger_step before h bytes old new holds now = record {
         ∙ sym (ledger_push before l x (head_of_item h bytes l ∙ w))
     go l false w = holds.each l ∙ sym (ledger_skip before l x (head_of_item h bytes l ∙ w))
 
--- without room there are too many ledgers, whatever follows
-ledger_full : (before todo : List Item) (h : Head) (bytes : List ℕ) (old : Ledgers) → LedgersHold before old → NoLedgerRoom old h
-    → most_ledgers < ledgers_count (before ++ item_of h bytes ∷ todo)
-ledger_full before todo h bytes old holds none =
+-- without room there are too many ledgers
+ledger_full : (before : List Item) (h : Head) (bytes : List ℕ) (old : Ledgers) → LedgersHold before old → NoLedgerRoom old h
+    → most_ledgers < ledgers_count (before ++ item_of h bytes ∷ [])
+ledger_full before h bytes old holds none =
     let one : one_if (is_new_ledger (item_of h bytes) before) ≡ 1 = sym (one_more before h bytes old holds)
     ∙ ap (λ (o : Option LedgerMarks). one_unless (is_some o)) none.missing in
-    omega (
-      arith,
-      one,
-      ledgers_push before (item_of h bytes),
-      holds.count,
-      none.full,
-      count_more is_new_ledger [] (before ++ item_of h bytes ∷ []) todo,
-      ap ledgers_count (append_assoc before (item_of h bytes ∷ []) todo),
-    )
+    omega (arith, one, ledgers_push before (item_of h bytes), holds.count, none.full)
+
+-- one item more is counted, or there are too many ledgers
+ledger_counted : (before : List Item) (h : Head) (bytes : List ℕ) (old new : Ledgers) (had has : Bool) → CountsLedger had old new h has
+    → LedgersAdded before old had → LedgersAdded (before ++ item_of h bytes ∷ []) new has
+ledger_counted before h bytes old new true true now was = ledger_step before h bytes old new was now
+ledger_counted before h bytes old new true false now was = ledger_full before h bytes old was now
+ledger_counted before h bytes old new false true now was = absurd now
+ledger_counted before h bytes old new false false now was = omega (arith, was, count_more is_new_ledger [] before (item_of h bytes ∷ []))
 
 -- ---- a body
 
 -- one item more is counted
-pub ledgers_go_on : (items : List Item) (rest more : List ℕ) (h : Head) (bytes : List ℕ) (old new : Ledgers) → item_from rest ≡ Ok (item_of h bytes, more)
-    → IsFront (item_of h bytes) more rest → LedgerAdded old new h → LedgersUnderway items rest old → LedgersUnderway items more new
-ledgers_go_on items rest more h bytes old new e front now u =
+pub ledgers_go_on : (items : List Item) (rest more : List ℕ) (h : Head) (bytes : List ℕ) (old new : Ledgers) (had has : Bool)
+    → item_from rest ≡ Ok (item_of h bytes, more) → IsFront (item_of h bytes) more rest → CountsLedger had old new h has
+    → LedgersUnderway items rest old had → LedgersUnderway items more new has
+ledgers_go_on items rest more h bytes old new had has e front now u =
     let x = item_of h bytes in
     let f = first_is rest more x u.todo e front.less u.valid u.spelt in
     record {
@@ -138,67 +136,41 @@ ledgers_go_on items rest more h bytes old new e front now u =
       all = u.all ∙ ap (λ (xs : List Item). u.done ++ xs) f.split ∙ sym (append_assoc u.done (x ∷ []) f.others);
       valid = f.valid;
       spelt = f.spelt;
-      holds = ledger_step u.done h bytes old new u.holds now;
+      counted = ledger_counted u.done h bytes old new had has now u.counted;
     }
 
--- without room there are too many
-pub ledgers_full : (items : List Item) (rest more : List ℕ) (h : Head) (bytes : List ℕ) (old : Ledgers) → item_from rest ≡ Ok (item_of h bytes, more)
-    → IsFront (item_of h bytes) more rest → NoLedgerRoom old h → LedgersUnderway items rest old → most_ledgers < ledgers_count items
-ledgers_full items rest more h bytes old e front none u =
-    let f = first_is rest more (item_of h bytes) u.todo e front.less u.valid u.spelt in
-    subst (λ (xs : List Item). most_ledgers < ledgers_count xs) (sym (u.all ∙ ap (λ (xs : List Item). u.done ++ xs) f.split))
-    (ledger_full u.done f.others h bytes old u.holds none)
-
 -- where no item is read, all are counted
-pub ledgers_end : (items : List Item) (rest : List ℕ) (fault : Fault) (ledgers : Ledgers) → item_from rest ≡ Err fault → LedgersUnderway items rest ledgers
-    → LedgersHold items ledgers
-ledgers_end items rest fault ledgers e u = go u.todo u.valid u.spelt u.all
-  where
-    go : (todo : List Item) → AllByRecursion IsItem todo → rest ≡ body_of todo → items ≡ u.done ++ todo → LedgersHold items ledgers
-    go [] valid spelt all = subst (λ (xs : List Item). LedgersHold xs ledgers) (sym (all ∙ append-nil u.done)) u.holds
-    go (x ∷ xs) valid spelt all =
-        let again : item_from rest ≡ Ok (x, body_of xs) = ap item_from (spelt ∙ flat_map-cons item_bytes x xs) ∙ items_are_exact.again x (body_of xs) valid.0 in
-        absurd (let wrong : Err fault ≡ Ok (x, body_of xs) = sym e ∙ again in cc)
+pub ledgers_end : (items : List Item) (rest : List ℕ) (fault : Fault) (ledgers : Ledgers) (room : Bool) → item_from rest ≡ Err fault
+    → LedgersUnderway items rest ledgers room → LedgersAdded items ledgers room
+ledgers_end items rest fault ledgers room e u =
+    let all : items ≡ u.done = u.all ∙ ap (λ (xs : List Item). u.done ++ xs) (ended rest fault u.todo e u.valid u.spelt) ∙ append-nil u.done in
+    subst (λ (xs : List Item). LedgersAdded xs ledgers room) (sym all) u.counted
 
 -- ---- batches
 
 -- one batch more is counted
-pub ledger_batches_step : (items : List (List Item)) (body : List ℕ) (bodies : List (List ℕ)) (old new : Ledgers)
-    → ((before xs : List Item) → Spells body xs → LedgersHold before old → LedgersHold (before ++ xs) new)
-    → LedgerBatchesUnderway items (body ∷ bodies) old → LedgerBatchesUnderway items bodies new
-ledger_batches_step items body bodies old new adds u = go u.todo u.spell u.all
+pub ledger_batches_step : (items : List (List Item)) (body : List ℕ) (bodies : List (List ℕ)) (old new : Ledgers) (had has : Bool)
+    → ((before xs : List Item) → Spells body xs → LedgersAdded before old had → LedgersAdded (before ++ xs) new has)
+    → LedgerBatchesUnderway items (body ∷ bodies) old had → LedgerBatchesUnderway items bodies new has
+ledger_batches_step items body bodies old new had has adds u = go u.todo u.spell u.all
   where
-    go : (todo : List (List Item)) → AllSpell (body ∷ bodies) todo → items ≡ u.done ++ todo → LedgerBatchesUnderway items bodies new
+    go : (todo : List (List Item)) → AllSpell (body ∷ bodies) todo → items ≡ u.done ++ todo → LedgerBatchesUnderway items bodies new has
     go [] spell all = absurd spell
     go (xs ∷ more) spell all = record {
       done = u.done ++ xs ∷ [];
       todo = more;
       all = all ∙ sym (append_assoc u.done (xs ∷ []) more);
       spell = spell.1;
-      holds = subst (λ (ys : List Item). LedgersHold ys new) (sym (all_push u.done xs)) (adds (all_of u.done) xs spell.0 u.holds);
+      counted = subst (λ (ys : List Item). LedgersAdded ys new has) (sym (all_push u.done xs)) (adds (all_of u.done) xs spell.0 u.counted);
     }
 
--- without room for a batch there are too many
-pub ledger_batches_full : (items : List (List Item)) (body : List ℕ) (bodies : List (List ℕ)) (old : Ledgers)
-    → ((before xs : List Item) → Spells body xs → LedgersHold before old → most_ledgers < ledgers_count (before ++ xs))
-    → LedgerBatchesUnderway items (body ∷ bodies) old → most_ledgers < ledgers_count (all_of items)
-ledger_batches_full items body bodies old adds u = go u.todo u.spell u.all
-  where
-    go : (todo : List (List Item)) → AllSpell (body ∷ bodies) todo → items ≡ u.done ++ todo → most_ledgers < ledgers_count (all_of items)
-    go [] spell all = absurd spell
-    go (xs ∷ more) spell all =
-        let same : all_of items ≡ (all_of u.done ++ xs) ++ all_of more =
-        ap all_of all ∙ flat_map-append (λ (b : List Item). b) u.done (xs ∷ more)
-        ∙ ap (λ (ys : List Item). all_of u.done ++ ys) (flat_map-cons (λ (b : List Item). b) xs more)
-        ∙ sym (append_assoc (all_of u.done) xs (all_of more)) in
-        omega (arith, ap ledgers_count same, count_more is_new_ledger [] (all_of u.done ++ xs) (all_of more), adds (all_of u.done) xs spell.0 u.holds)
-
 -- behind the last batch all are counted
-pub ledger_batches_end : (items : List (List Item)) (ledgers : Ledgers) → LedgerBatchesUnderway items [] ledgers → LedgersHold (all_of items) ledgers
-ledger_batches_end items ledgers u = go u.todo u.spell u.all
+pub ledger_batches_end : (items : List (List Item)) (ledgers : Ledgers) (room : Bool) → LedgerBatchesUnderway items [] ledgers room
+    → LedgersAdded (all_of items) ledgers room
+ledger_batches_end items ledgers room u = go u.todo u.spell u.all
   where
-    go : (todo : List (List Item)) → AllSpell [] todo → items ≡ u.done ++ todo → LedgersHold (all_of items) ledgers
-    go [] spell all = subst (λ (xs : List (List Item)). LedgersHold (all_of xs) ledgers) (sym (all ∙ append-nil u.done)) u.holds
+    go : (todo : List (List Item)) → AllSpell [] todo → items ≡ u.done ++ todo → LedgersAdded (all_of items) ledgers room
+    go [] spell all = subst (λ (xs : List (List Item)). LedgersAdded (all_of xs) ledgers room) (sym (all ∙ append-nil u.done)) u.counted
     go (xs ∷ more) spell all = absurd spell
 
 -- no items have no ledgers

@@ -1,6 +1,6 @@
 -- The table of entries while the items of batches are counted into it.
 use Rattle.std.specs.Prelude.{◌≡◌, ◌<◌, ◌≤◌, ◌⊎◌, ℕ, ◌+◌, Bool, true, false, ◌==◌, ◌&&◌, ◌||◌, if◌then◌else◌, List, [], ◌++◌, length, Option, Some, None}
-use Rattle.std.specs.Prelude.{is_some, IsSome}
+use Rattle.std.specs.Prelude.{is_some, IsSome, ⊤}
 use Rattle.std.specs.List.{AllByRecursion}
 use Rattle.dl_rules_nodes.specs.Limits.{most_entries}
 use Rattle.dl_rules_nodes.specs.Items.{Item, items_length, body_of, IsItem}
@@ -43,6 +43,12 @@ AddsEntryOf old new (head.Copy l e n) place room = AddsEntry old new l e false p
 AddsEntryOf old new (head.Fence l) place true = new ≡ old
 AddsEntryOf old new (head.Fence l) place false = ⊥
 
+-- the same where there was room for all entries before
+abbrev pub CountsEntry : (had_room : Bool) → Entries → Entries → Head → Place → (room : Bool) → Type 0
+CountsEntry true old new h place room = AddsEntryOf old new h place room
+CountsEntry false old new h place true = ⊥
+CountsEntry false old new h place false = ⊤
+
 -- The table says what these batches say of each entry, and the first items of the next one.
 pub record EntriesHold (before : List (List Item)) (done : List Item) (entries : Entries) : Type 0 where
   pub each : (l e : ℕ) → marks_at entries l e
@@ -50,31 +56,31 @@ pub record EntriesHold (before : List (List Item)) (done : List Item) (entries :
   pub count : length entries ≡ entries_count (all_of before ++ done)
   pub few : length entries ≤ most_entries
 
--- with room the table holds one batch more; without, there are too many entries
-abbrev pub BatchAdded : List (List Item) → List Item → Entries → Bool → Type 0
+-- with room the table holds some batches and the first items of the next one; without, these have too many entries
+abbrev pub BatchAdded : List (List Item) → List Item → Entries → (room : Bool) → Type 0
 BatchAdded before items entries true = EntriesHold before items entries
 BatchAdded before items entries false = most_entries < entries_count (all_of before ++ items)
 
--- with room the table holds these batches; without, there are too many entries
-abbrev pub BatchesAdded : List (List Item) → Entries → Bool → Type 0
+-- the same of batches alone
+abbrev pub BatchesAdded : List (List Item) → Entries → (room : Bool) → Type 0
 BatchesAdded batches entries true = EntriesHold batches [] entries
 BatchesAdded batches entries false = most_entries < entries_count (all_of batches)
 
 -- Some first items of a batch are counted; the others begin at this offset.
-pub record Underway (before : List (List Item)) (items : List Item) (at : ℕ) (rest : List ℕ) (entries : Entries) : Type 0 where
+pub record Underway (before : List (List Item)) (items : List Item) (at : ℕ) (rest : List ℕ) (entries : Entries) (room : Bool) : Type 0 where
   pub done : List Item
   pub todo : List Item
   pub all : items ≡ done ++ todo
   pub valid : AllByRecursion IsItem todo
   pub spelt : rest ≡ body_of todo
   pub place : at ≡ gate_of before + 13 + items_length done
-  pub holds : EntriesHold before done entries
+  pub counted : BatchAdded before done entries room
 
 -- Some first batches are counted; the gate of the next one stands at this offset.
-pub record BatchesUnderway (items : List (List Item)) (gate : ℕ) (rest : List (List ℕ)) (entries : Entries) : Type 0 where
+pub record BatchesUnderway (items : List (List Item)) (gate : ℕ) (rest : List (List ℕ)) (entries : Entries) (room : Bool) : Type 0 where
   pub done : List (List Item)
   pub todo : List (List Item)
   pub all : items ≡ done ++ todo
   pub spell : AllSpell rest todo
   pub place : gate ≡ gate_of done
-  pub holds : EntriesHold done [] entries
+  pub counted : BatchesAdded done entries room

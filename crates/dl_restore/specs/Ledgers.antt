@@ -1,6 +1,6 @@
 -- The table of ledgers while items are counted into it.
 use Rattle.std.specs.Prelude.{◌≡◌, ◌<◌, ◌≤◌, ◌⊎◌, ℕ, ◌+◌, max, Bool, true, false, ◌==◌, ◌||◌, if◌then◌else◌, List, [], ◌++◌, length, Option, Some, None}
-use Rattle.std.specs.Prelude.{is_some, IsSome}
+use Rattle.std.specs.Prelude.{is_some, IsSome, ⊤}
 use Rattle.std.specs.List.{AllByRecursion}
 use Rattle.dl_rules_nodes.specs.Limits.{most_ledgers}
 use Rattle.dl_rules_nodes.specs.Items.{Item, body_of, IsItem}
@@ -34,35 +34,36 @@ abbrev pub AddsLedger : Ledgers → Ledgers → Head → Bool → Type 0
 AddsLedger old new h true = LedgerAdded old new h
 AddsLedger old new h false = NoLedgerRoom old h
 
+-- the same where there was room for all ledgers before
+abbrev pub CountsLedger : (had_room : Bool) → Ledgers → Ledgers → Head → (room : Bool) → Type 0
+CountsLedger true old new h room = AddsLedger old new h room
+CountsLedger false old new h true = ⊥
+CountsLedger false old new h false = ⊤
+
 -- The table says what these items say of each ledger.
 pub record LedgersHold (items : List Item) (ledgers : Ledgers) : Type 0 where
   pub each : (l : ℕ) → ledger_at ledgers l ≡ ledger_known items [] [] l
   pub count : length ledgers ≡ ledgers_count items
   pub few : length ledgers ≤ most_ledgers
 
--- with room the table holds these items more; without, there are too many ledgers
-abbrev pub LedgerBatchAdded : (before items : List Item) → Ledgers → Bool → Type 0
-LedgerBatchAdded before items ledgers true = LedgersHold (before ++ items) ledgers
-LedgerBatchAdded before items ledgers false = most_ledgers < ledgers_count (before ++ items)
-
--- with room the table holds these batches; without, there are too many ledgers
-abbrev pub LedgerBatchesAdded : List (List Item) → Ledgers → Bool → Type 0
-LedgerBatchesAdded batches ledgers true = LedgersHold (all_of batches) ledgers
-LedgerBatchesAdded batches ledgers false = most_ledgers < ledgers_count (all_of batches)
+-- with room the table holds these items; without, they have too many ledgers
+abbrev pub LedgersAdded : List Item → Ledgers → (room : Bool) → Type 0
+LedgersAdded items ledgers true = LedgersHold items ledgers
+LedgersAdded items ledgers false = most_ledgers < ledgers_count items
 
 -- Some first items of a list are counted; the others are spelt by these bytes.
-pub record LedgersUnderway (items : List Item) (rest : List ℕ) (ledgers : Ledgers) : Type 0 where
+pub record LedgersUnderway (items : List Item) (rest : List ℕ) (ledgers : Ledgers) (room : Bool) : Type 0 where
   pub done : List Item
   pub todo : List Item
   pub all : items ≡ done ++ todo
   pub valid : AllByRecursion IsItem todo
   pub spelt : rest ≡ body_of todo
-  pub holds : LedgersHold done ledgers
+  pub counted : LedgersAdded done ledgers room
 
 -- Some first batches are counted.
-pub record LedgerBatchesUnderway (items : List (List Item)) (rest : List (List ℕ)) (ledgers : Ledgers) : Type 0 where
+pub record LedgerBatchesUnderway (items : List (List Item)) (rest : List (List ℕ)) (ledgers : Ledgers) (room : Bool) : Type 0 where
   pub done : List (List Item)
   pub todo : List (List Item)
   pub all : items ≡ done ++ todo
   pub spell : AllSpell rest todo
-  pub holds : LedgersHold (all_of done) ledgers
+  pub counted : LedgersAdded (all_of done) ledgers room

@@ -1,12 +1,8 @@
-ghost use Rattle.std.specs.Prelude.{◌≡◌, ◌<◌, ℕ, List, []};
-ghost use Rattle.dl_rules_nodes.specs.Items.{Item};
+ghost use Rattle.std.specs.Prelude.{◌≡◌};
 ghost use Rattle.dl_items.specs.Heads.{ledger_in, is_fence_head, count_of};
-ghost use Rattle.dl_restore.specs.Bodies.{bodies_of, Spells, AllSpell};
-ghost use Rattle.dl_restore.specs.Ledgers.{ledger_added, AddsLedger, LedgersHold, LedgerBatchAdded, LedgerBatchesAdded};
+ghost use Rattle.dl_restore.specs.Ledgers.{ledger_added, AddsLedger, CountsLedger};
 
 use dl_items::head::Head;
-use dl_items::read::read_item;
-use dl_journal::batch::Batch;
 use dl_marks::ledgers::LedgerTable;
 use dl_marks::marks::LedgerMarks;
 use dl_rules_nodes::limits::MOST_LEDGERS;
@@ -53,32 +49,12 @@ fn add_ledger_of(ledgers: &mut LedgerTable, head: Head) -> bool
     true
 }
 
-/// Counts the ledgers of a body, as long as there is room.
-fn add_body(ledgers: &mut LedgerTable, body: &[u8]) -> bool
-    ensures { (before items : List Item) → Spells body.now items → LedgersHold before ledgers.old
-        → LedgerBatchAdded before items ledgers.new result }
+/// The same where there was room for all ledgers before: else nothing changes.
+pub(crate) fn count_ledger(ledgers: &mut LedgerTable, had_room: bool, head: Head) -> bool
+    ensures { CountsLedger had_room ledgers.old ledgers.new head result }
 {
-    let mut rest = body;
-    while let Ok((item, more)) = read_item(rest) {
-        if !add_ledger_of(ledgers, item.head) {
-            return false;
-        }
-        rest = more;
+    if !had_room {
+        return false;
     }
-    true
-}
-
-/// Counts the ledgers of a journal's batches, whose bodies are items, into an empty table. The answer is whether there was room;
-/// where there was none, the batches have more ledgers than the table takes. It takes no memory.
-pub fn add_ledgers(ledgers: &mut LedgerTable, batches: &[Batch]) -> bool
-    requires { ledgers.old ≡ [] }
-    ensures { (items : List (List Item)) → AllSpell (bodies_of batches.now) items
-        → LedgerBatchesAdded items ledgers.new result }
-{
-    for batch in batches {
-        if !add_body(ledgers, batch.body.as_slice()) {
-            return false;
-        }
-    }
-    true
+    add_ledger_of(ledgers, head)
 }

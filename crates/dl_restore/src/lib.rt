@@ -1,11 +1,11 @@
-//! The tables of a storage node from the batches of its journal: each batch is checked, and then its items are counted into the
+//! The tables of a storage node from the batches of its journal: in one pass over the items each is checked and counted into the
 //! tables.
 #![tactic(auto)]
 
-pub mod check;
-pub mod entries;
+mod count;
+mod entries;
 pub mod fault;
-pub mod ledgers;
+mod ledgers;
 pub mod restore;
 #[cfg(test)]
 mod tests;
