@@ -26,8 +26,8 @@ pub(crate) struct Change {
 pub(crate) struct Nodes {
     slots: BTreeMap<Path, Option<Node>>,
     changes: Vec<Change>,
-    /// The paths that changed since the tree was kept or went back: the others have no empty slot.
-    touched: Vec<Path>,
+    /// The paths at which none was put since the tree was kept or went back: no other slot is empty when it is kept.
+    emptied: Vec<Path>,
 }
 
 impl Model for Nodes {
@@ -63,12 +63,31 @@ fn sweep_all(slots: &mut BTreeMap<Path, Option<Node>>, paths: &mut Vec<Path>)
 }
 
 /// Puts back what a path had before a change. The path has a slot, so no memory is taken.
-fn restore(slots: &mut BTreeMap<Path, Option<Node>>, path: Path, before: Option<Node>)
-    requires { has_slot slots.old.entries path }
-    ensures tree { tree_in slots.new.entries ≡ with_node (tree_in slots.old.entries) path before }
+fn restore(slots: &mut BTreeMap<Path, Option<Node>>, path: &Path, before: Option<Node>)
+    requires { has_slot slots.old.entries path.now }
+    ensures tree { tree_in slots.new.entries
+        ≡ with_node (tree_in slots.old.entries) path.now before }
     ensures kept { (q : List ℕ) → has_slot slots.old.entries q → has_slot slots.new.entries q }
 {
-    let _ = slots.insert(path, before);
+    if let Some(slot) = slots.get_mut(path) {
+        *slot = before;
+    }
+}
+
+/// Undoes a change. Where it made its path's slot, that is empty again, and the path goes among those.
+fn undo(slots: &mut BTreeMap<Path, Option<Node>>, emptied: &mut Vec<Path>, change: Change)
+    requires { has_slot slots.old.entries change.path }
+    ensures tree { tree_in slots.new.entries
+        ≡ with_node (tree_in slots.old.entries) change.path change.before }
+    ensures kept { (q : List ℕ) → has_slot slots.old.entries q → has_slot slots.new.entries q }
+{
+    let Change { path, before } = change;
+    let is_new = before.is_none();
+    restore(slots, &path, before);
+    if is_new {
+        // Room was made for it.
+        let _ = emptied.push(path);
+    }
 }
 
 impl Nodes {
@@ -88,7 +107,7 @@ impl Nodes {
         Ok(Nodes {
             slots,
             changes: Vec::new(alloc),
-            touched: Vec::new(alloc),
+            emptied: Vec::new(alloc),
         })
     }
 
@@ -103,14 +122,32 @@ impl Nodes {
         }
     }
 
-    /// Puts a node, or none, at a path.
-    pub(crate) fn put(&mut self, path: &Path, node: Option<Node>) -> Result<(), NoMemory>
+    /// Puts a node at a path.
+    pub(crate) fn put(&mut self, path: &Path, node: Node) -> Result<(), NoMemory>
+        ensures ok { OnOk result (self.new
+            ≡ (with_node self.old.0 path.now (Some node), self.old.1)) }
+        ensures err { OnErr result (self.new ≡ self.old) }
+    {
+        self.change(path, Some(node))
+    }
+
+    /// Takes out what is at a path. Its slot is empty until the tree is kept or goes back.
+    pub(crate) fn take(&mut self, path: &Path) -> Result<(), NoMemory>
+        ensures ok { OnOk result (self.new ≡ (with_node self.old.0 path.now None, self.old.1)) }
+        ensures err { OnErr result (self.new ≡ self.old) }
+    {
+        self.emptied.push(path.share()?)?;
+        self.change(path, None)
+    }
+
+    /// Puts a node, or none, at a path, and notes what it had. The way back finds room for each path that gets its slot.
+    fn change(&mut self, path: &Path, node: Option<Node>) -> Result<(), NoMemory>
         ensures ok { OnOk result (self.new ≡ (with_node self.old.0 path.now node, self.old.1)) }
         ensures err { OnErr result (self.new ≡ self.old) }
     {
         let key = path.share()?;
-        self.touched.push(path.share()?)?;
         let path = path.share()?;
+        self.emptied.try_reserve(self.changes.len() + 1)?;
         self.changes.try_reserve(1)?;
         let before = self.slots.insert(key, node)?.flatten();
         // Room was made for it.
@@ -134,12 +171,13 @@ impl Nodes {
         Ok(names)
     }
 
-    /// Keeps the tree as it is: there is no way back.
+    /// Keeps the tree as it is: there is no way back. Only a slot whose node was taken out can be empty, and a tree without
+    /// such a change is kept without a look at its slots.
     pub(crate) fn keep(&mut self)
         ensures { self.new ≡ (self.old.0, self.old.0) }
     {
         self.changes.clear();
-        sweep_all(&mut self.slots, &mut self.touched);
+        sweep_all(&mut self.slots, &mut self.emptied);
     }
 
     /// Goes back to the earlier tree. A slot stays until the last of its path's changes is undone, so that no memory is
@@ -148,10 +186,9 @@ impl Nodes {
         ensures { self.new ≡ (self.old.1, self.old.1) }
     {
         while let Some(change) = self.changes.pop() {
-            let Change { path, before } = change;
-            restore(&mut self.slots, path, before);
+            undo(&mut self.slots, &mut self.emptied, change);
         }
-        sweep_all(&mut self.slots, &mut self.touched);
+        sweep_all(&mut self.slots, &mut self.emptied);
     }
 
     /// Takes out the nodes that a session owns, as one change.
@@ -159,7 +196,7 @@ impl Nodes {
         ensures { let t = without_session self.old.0 session in self.new ≡ (t, t) }
     {
         self.changes.clear();
-        self.touched.clear();
+        self.emptied.clear();
         self.slots.retain(|_path, slot| !is_owned(session, slot));
     }
 }

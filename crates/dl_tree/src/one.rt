@@ -177,8 +177,8 @@ fn create_below(
         owner: owner_of(mode, session),
         counter: 0,
     };
-    nodes.put(above, Some(counted_up(mode, parent)))?;
-    nodes.put(&made, Some(node))?;
+    nodes.put(above, counted_up(mode, parent))?;
+    nodes.put(&made, node)?;
     Ok(OneAnswer::Made(made))
 }
 
@@ -241,7 +241,7 @@ pub(crate) fn delete(
             if is_root || count != 0 {
                 return Err(OneFault::Failed(Why::NotEmpty(count)));
             }
-            nodes.put(path, None)?;
+            nodes.take(path)?;
             Ok(OneAnswer::Done)
         }
         None => Err(OneFault::Failed(Why::NoNode)),
@@ -276,7 +276,7 @@ pub(crate) fn set(
                 owner: node.owner,
                 counter: node.counter,
             };
-            nodes.put(path, Some(changed))?;
+            nodes.put(path, changed)?;
             Ok(OneAnswer::Version(next))
         }
         None => Err(OneFault::Failed(Why::NoNode)),

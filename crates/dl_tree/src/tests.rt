@@ -360,7 +360,7 @@ fn root_with(alloc: Global, version: u64, counter: u64) -> Result<Nodes, NoMemor
         owner: None,
         counter,
     };
-    nodes.put(&Path::new(alloc, b"/")?, Some(root))?;
+    nodes.put(&Path::new(alloc, b"/")?, root)?;
     Ok(nodes)
 }
 

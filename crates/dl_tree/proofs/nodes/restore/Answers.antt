@@ -1,5 +1,13 @@
-use Rattle.dl_tree.proofs.SlotLemmas.{restored}
+use Rattle.std.proofs.Common.{rules}
+use Rattle.dl_tree.proofs.SlotLemmas.{tree_in-written, has_slot-written}
 use Rattle.dl_tree.proofs.nodes.restore.Goals as goal
 
-pub returns-clause-tree : goal.returns-clause-tree
-returns-clause-tree c = restored c.args.slots.now c.insert.new.self _ _ c.insert.result c.requires c.insert.ensures.updates c.insert.ensures.absent
+pub returns-in-Some-clause-tree : goal.returns-in-Some-clause-tree
+returns-in-Some-clause-tree c =
+    tree_in-written c.args.slots.now (c.get_mut.follows.lender c.args.before) c.args.path.now c.args.before
+    ((c.get_mut.follows.holds c.args.before).3 (search rules))
+
+pub returns-in-Some-clause-kept : goal.returns-in-Some-clause-kept
+returns-in-Some-clause-kept c =
+    has_slot-written c.args.slots.now (c.get_mut.follows.lender c.args.before) c.args.path.now c.args.before
+    ((c.get_mut.follows.holds c.args.before).3 (search rules))
