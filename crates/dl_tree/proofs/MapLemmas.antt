@@ -67,3 +67,14 @@ put_back t p o = same_tree _ _ each
         go : (same_path q p ≡ true) ⊎ (same_path q p ≡ false) → cond (same_path q p) (get t p) (get (with_node t p o) q) ≡ get t q
         go (inl e) = cond-true _ _ _ e ∙ ap (get t) (sym (path_is q p e))
         go (inr e) = cond-false _ _ _ e ∙ get-with_node t p o q ∙ cond-false _ _ _ e
+
+-- what stands at a path, put there again, leaves the tree
+pub put_again : (t : Nodes) (p : List ℕ) (o : Option Node) → get t p ≡ o → with_node t p o ≡ t
+put_again t p o is = same_tree _ _ each
+  where
+    each : (q : List ℕ) → get (with_node t p o) q ≡ get t q
+    each q = get-with_node t p o q ∙ go (cases_Bool (same_path q p))
+      where
+        go : (same_path q p ≡ true) ⊎ (same_path q p ≡ false) → cond (same_path q p) o (get t q) ≡ get t q
+        go (inl e) = cond-true _ _ _ e ∙ sym is ∙ ap (get t) (sym (path_is q p e))
+        go (inr e) = cond-false _ _ _ e

@@ -1,6 +1,6 @@
-ghost use Rattle.std.specs.Prelude.{◌≡◌, ℕ, Ok, IfOk, IfErr, ◌&&◌, ◌^◌};
+ghost use Rattle.std.specs.Prelude.{◌≡◌, ℕ, Ok, Some, IfOk, IfErr, OnOk, OnErr, ◌&&◌, ◌^◌};
 ghost use Rattle.std.specs.Prelude.{nat_le, false, not, bytes_eq};
-ghost use Rattle.std.specs.FinMap.{get};
+ghost use Rattle.std.specs.FinMap.{get, insert};
 ghost use Rattle.dl_tree.specs.Faults.{IsFault};
 ghost use Rattle.dl_tree.specs.Paths.{parent_of, root};
 ghost use Rattle.dl_tree.specs.Trees.{fits, is_counted, owner_of, parent_after};
@@ -114,20 +114,24 @@ fn is_spent(mode: Mode, counter: u64) -> bool
     is_counted(mode) && 10_000_000_000 <= counter
 }
 
-/// The parent after a creation.
-fn counted_up(mode: Mode, parent: Node) -> Node
-    requires { (is_counted mode && nat_le (10 ^ 10) parent.counter) ≡ false }
-    ensures { result ≡ parent_after mode parent }
+/// Raises the parent's counter where a mode adds it to the name. Else the parent stays as it is, and no node is put.
+fn count_up(nodes: &mut Nodes, above: &Path, parent: Node, mode: Mode) -> Result<(), NoMemory>
+    requires there { get nodes.old.0 above.now ≡ Some parent }
+    requires left { (is_counted mode && nat_le (10 ^ 10) parent.counter) ≡ false }
+    ensures ok { OnOk result (nodes.new
+        ≡ (insert nodes.old.0 above.now (parent_after mode parent), nodes.old.1)) }
+    ensures err { OnErr result (nodes.new ≡ nodes.old) }
 {
     if is_counted(mode) {
-        Node {
+        let raised = Node {
             counter: parent.counter + 1,
             bytes: parent.bytes,
             version: parent.version,
             owner: parent.owner,
-        }
+        };
+        nodes.put(above, raised)
     } else {
-        parent
+        Ok(())
     }
 }
 
@@ -154,7 +158,8 @@ fn create_below(
     bytes: &Body,
     mode: Mode,
 ) -> Result<OneAnswer, OneFault>
-    requires { above.now ≡ parent_of path.now }
+    requires above { above.now ≡ parent_of path.now }
+    requires there { get nodes.old.0 above.now ≡ Some parent }
     ensures ok { IfOk result (λ a. child_outcome nodes.old.0 session path.now bytes.now mode parent
         ≡ Ok (a, nodes.new.0)) }
     ensures err { IfErr result (IsFault (child_outcome nodes.old.0 session path.now bytes.now
@@ -177,7 +182,7 @@ fn create_below(
         owner: owner_of(mode, session),
         counter: 0,
     };
-    nodes.put(above, counted_up(mode, parent))?;
+    count_up(nodes, above, parent, mode)?;
     nodes.put(&made, node)?;
     Ok(OneAnswer::Made(made))
 }
