@@ -7,3 +7,4 @@ pub mod CounterLemmas
 pub mod RunLemmas
 pub mod PartLemmas
 pub mod RangeLemmas
+pub mod CreateLemmas

@@ -1,12 +1,12 @@
 -- Trees as maps: what stands at a path after a change, and when two trees are the same.
-use Rattle.std.proofs.Common.{◌≡◌, ℕ, Bool, true, false, cond, List, Option, Some, None, refl, sym, ap, ◌∙◌, inl, inr, ◌⊎◌}
+use Rattle.std.proofs.Common.{◌≡◌, ℕ, Bool, true, false, cond, List, Option, Some, None, is_some, refl, sym, ap, ◌∙◌, inl, inr, ◌⊎◌}
 use Rattle.std.proofs.lemmas.Bool.{cond-true, cond-false, cases_Bool}
 use Rattle.std.proofs.lemmas.Map.Lookups.{exact_bytes}
 use Rattle.std.proofs.lemmas.Map.Views.{tells_apart}
 use Rattle.std.specs.Cmp.{eq_by_cmp_equiv}
 use Rattle.std.specs.Cmp.Lexicographic.{slice_cmp, nat_list_cmp_total}
 use Rattle.std.specs.Ordering.{nat_cmp, eq_by_cmp}
-use Rattle.std.specs.FinMap.{get, get-insert, get-remove, same_map}
+use Rattle.std.specs.FinMap.{get, insert, get-insert, get-remove, same_map}
 use Rattle.dl_tree.specs.declared.node.Node.{Node}
 use Rattle.dl_tree.specs.Trees.{Nodes}
 use Rattle.dl_tree.specs.Slots.{with_node}
@@ -78,3 +78,11 @@ put_again t p o is = same_tree _ _ each
         go : (same_path q p ≡ true) ⊎ (same_path q p ≡ false) → cond (same_path q p) o (get t q) ≡ get t q
         go (inl e) = cond-true _ _ _ e ∙ sym is ∙ ap (get t) (sym (path_is q p e))
         go (inr e) = cond-false _ _ _ e
+
+-- a node in the place of another one leaves where nodes are
+pub same_places : (t : Nodes) (p : List ℕ) (n m : Node) (q : List ℕ) → get t p ≡ Some n → is_some (get (insert t p m) q) ≡ is_some (get t q)
+same_places t p n m q is = ap is_some (get-with_node t p (Some m) q) ∙ go (cases_Bool (same_path q p))
+  where
+    go : (same_path q p ≡ true) ⊎ (same_path q p ≡ false) → is_some (cond (same_path q p) (Some m) (get t q)) ≡ is_some (get t q)
+    go (inl e) = ap is_some (cond-true _ _ _ e) ∙ sym (ap is_some is) ∙ ap (λ (r : List ℕ). is_some (get t r)) (sym (path_is q p e))
+    go (inr e) = ap is_some (cond-false _ _ _ e)

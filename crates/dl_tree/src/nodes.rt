@@ -1,4 +1,5 @@
-ghost use Rattle.std.specs.Prelude.{◌≡◌, ℕ, IfOk, OnOk, OnErr, Some, None, List, ◌||◌, is_none};
+ghost use Rattle.std.specs.Prelude.{◌≡◌, ℕ, IfOk, OnOk, OnErr, Some, None, List, ◌||◌};
+ghost use Rattle.std.specs.Prelude.{is_some, is_none};
 ghost use Rattle.std.specs.Option.{option_copied};
 ghost use Rattle.std.specs.FinMap.{get};
 ghost use Rattle.dl_tree.specs.Slots.{with_node, tree_in, has_slot};
@@ -122,8 +123,9 @@ impl Nodes {
         }
     }
 
-    /// Puts a node at a path.
-    pub(crate) fn put(&mut self, path: &Path, node: Node) -> Result<(), NoMemory>
+    /// Puts a node at a path. Whether one was there.
+    pub(crate) fn put(&mut self, path: &Path, node: Node) -> Result<bool, NoMemory>
+        ensures was { IfOk result (λ was. was ≡ is_some (get self.old.0 path.now)) }
         ensures ok { OnOk result (self.new
             ≡ (with_node self.old.0 path.now (Some node), self.old.1)) }
         ensures err { OnErr result (self.new ≡ self.old) }
@@ -137,11 +139,14 @@ impl Nodes {
         ensures err { OnErr result (self.new ≡ self.old) }
     {
         self.emptied.push(path.share()?)?;
-        self.change(path, None)
+        let _was = self.change(path, None)?;
+        Ok(())
     }
 
-    /// Puts a node, or none, at a path, and notes what it had. The way back finds room for each path that gets its slot.
-    fn change(&mut self, path: &Path, node: Option<Node>) -> Result<(), NoMemory>
+    /// Puts a node, or none, at a path, and notes what it had: whether that was a node. The way back finds room for each path
+    /// that gets its slot.
+    fn change(&mut self, path: &Path, node: Option<Node>) -> Result<bool, NoMemory>
+        ensures was { IfOk result (λ was. was ≡ is_some (get self.old.0 path.now)) }
         ensures ok { OnOk result (self.new ≡ (with_node self.old.0 path.now node, self.old.1)) }
         ensures err { OnErr result (self.new ≡ self.old) }
     {
@@ -150,9 +155,10 @@ impl Nodes {
         self.emptied.try_reserve(self.changes.len() + 1)?;
         self.changes.try_reserve(1)?;
         let before = self.slots.insert(key, node)?.flatten();
+        let was = before.is_some();
         // Room was made for it.
         let _ = self.changes.push(Change { path, before });
-        Ok(())
+        Ok(was)
     }
 
     /// The names of a node's children, in byte order. It looks at the slots below the node alone, children and what stands

@@ -129,7 +129,8 @@ fn count_up(nodes: &mut Nodes, above: &Path, parent: Node, mode: Mode) -> Result
             version: parent.version,
             owner: parent.owner,
         };
-        nodes.put(above, raised)
+        let _was = nodes.put(above, raised)?;
+        Ok(())
     } else {
         Ok(())
     }
@@ -173,9 +174,6 @@ fn create_below(
         return Err(OneFault::Failed(Why::Spent));
     }
     let made = made_path(alloc, path, mode, &parent)?;
-    if nodes.get(&made).is_some() {
-        return Err(OneFault::Failed(Why::NodeExists));
-    }
     let node = Node {
         bytes: bytes.share()?,
         version: 0,
@@ -183,7 +181,10 @@ fn create_below(
         counter: 0,
     };
     count_up(nodes, above, parent, mode)?;
-    nodes.put(&made, node)?;
+    let was = nodes.put(&made, node)?;
+    if was {
+        return Err(OneFault::Failed(Why::NodeExists));
+    }
     Ok(OneAnswer::Made(made))
 }
 
@@ -281,7 +282,7 @@ pub(crate) fn set(
                 owner: node.owner,
                 counter: node.counter,
             };
-            nodes.put(path, changed)?;
+            let _was = nodes.put(path, changed)?;
             Ok(OneAnswer::Version(next))
         }
         None => Err(OneFault::Failed(Why::NoNode)),

@@ -360,7 +360,7 @@ fn root_with(alloc: Global, version: u64, counter: u64) -> Result<Nodes, NoMemor
         owner: None,
         counter,
     };
-    nodes.put(&Path::new(alloc, b"/")?, root)?;
+    let _was = nodes.put(&Path::new(alloc, b"/")?, root)?;
     Ok(nodes)
 }
 
