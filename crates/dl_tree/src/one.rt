@@ -206,7 +206,7 @@ pub(crate) fn create(
     if is_rootless(path, mode) {
         return Err(OneFault::Failed(Why::NoNode));
     }
-    let above = parent(alloc, path.as_slice())?;
+    let above = parent(path)?;
     match nodes.get(&above) {
         Some(node) => {
             let node = node.share()?;

@@ -4,6 +4,7 @@ ghost use Rattle.dl_fields.specs.Paths.{last_length};
 ghost use Rattle.dl_tree.specs.Paths.{name_of, front_of, parent_of, with_byte};
 ghost use Rattle.dl_tree.specs.Paths.{below, past_below, is_below, root};
 
+use bytes::Bytes;
 use dl_fields::digits::put_digits;
 use dl_fields::path::last_length;
 use dl_types::memory::NoMemory;
@@ -69,16 +70,18 @@ pub(crate) fn is_root(path: &[u8]) -> bool
     path == b"/".as_slice()
 }
 
-/// The path of a node's parent.
+/// The path of a node's parent. It shares the bytes of the path, and takes no memory of its own.
 #[tactic(auto, unfolding(crate::specs::Paths::parent_of))]
-pub(crate) fn parent(alloc: Global, path: &[u8]) -> Result<Path, NoMemory>
+pub(crate) fn parent(path: &Path) -> Result<Path, NoMemory>
     ensures { IfOk result (λ parent. parent ≡ parent_of path.now) }
 {
-    let start = name_start(path);
+    let start = name_start(path.as_slice());
     if start == 1 {
-        return Path::new(alloc, b"/");
+        return Ok(Path::from_bytes(Bytes::from_static(b"/")));
     }
-    Path::new(alloc, &path[..start.saturating_sub(1)])
+    let bytes = path.share()?.into_bytes();
+    let front = bytes.slice(0..start.saturating_sub(1))?;
+    Ok(Path::from_bytes(front))
 }
 
 /// The path with ten digits of a number added.
