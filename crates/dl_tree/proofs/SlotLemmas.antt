@@ -13,7 +13,7 @@ use Rattle.dl_tree.specs.declared.node.Node.{Node}
 use Rattle.dl_tree.specs.declared.nodes.Change.{Change}
 use Rattle.dl_tree.specs.Trees.{Nodes}
 use Rattle.dl_tree.specs.Slots.{with_node, tree_in, tree_before, has_slot, Covers}
-use Rattle.std.proofs.Common.{Result, Ok, Err, OnOk, OnErr, filter, ◌||◌, is_none}
+use Rattle.std.proofs.Common.{filter, ◌||◌, is_none}
 use Rattle.std.specs.Cmp.{eq_by_cmp_equiv}
 use Rattle.std.specs.Cmp.Lexicographic.{nat_list_cmp_total}
 use Rattle.std.specs.List.Sorted.{IsStrictlySortedBy}
@@ -106,13 +106,6 @@ before-noted t u cs ds p o before e b d =
     ap (tree_before u) d ∙ before-more u cs _ ∙ ap (λ (x : Nodes). tree_before (with_node x p before) cs) e
     ∙ ap (λ (x : Option Node). tree_before (with_node (with_node t p o) p x) cs) b
     ∙ ap (λ (x : Nodes). tree_before x cs) (put_back t p o)
-
--- putting a slot back, where it is there
-pub restored : {E : Type 0} (m n : BTreeMap (List ℕ) (Option Node)) (k : List ℕ) (v : Option Node) (r : Result (Option (Option Node)) E) → has_slot m.entries k
-    → OnOk r (Updates (slice_cmp nat_cmp) m n k (Some v)) → OnErr r (tree.get (slice_cmp nat_cmp) m k ≡ None)
-    → tree_in n.entries ≡ with_node (tree_in m.entries) k v
-restored m n k v (Ok old) h u none = tree_in-written m n k v u
-restored m n k v (Err e) h u none = absurd (true≢false (sym h ∙ ap is_some none))
 
 -- the node of a path's slot is what the tree has at that path
 pub found : (es : List (List ℕ × Option Node)) (q : List ℕ) (o : Option (Option Node)) (now : Nodes × Nodes) (before : Nodes)
