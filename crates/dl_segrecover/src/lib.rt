@@ -10,5 +10,3 @@ mod last_entry;
 pub mod recovered;
 pub mod segment_recovery;
 mod stage;
-#[cfg(test)]
-mod tests;
