@@ -34,3 +34,13 @@ answer_of (stage, next) = (stage, turn_of next)
 abbrev pub move_of : {S R A : Type 0} → (S → R) → R → Move S A → R × Turn A
 move_of stands stage Stays = (stage, turn.Wait)
 move_of stands stage (Goes kept turn) = (stands kept, turn)
+
+-- the kept stage behind a move
+abbrev pub stage_behind : {S A : Type 0} → S → Move S A → S
+stage_behind stage Stays = stage
+stage_behind stage (Goes next t) = next
+
+-- the turn of a move
+abbrev pub turn_in : {S A : Type 0} → Move S A → Turn A
+turn_in Stays = turn.Wait
+turn_in (Goes next t) = t
