@@ -31,7 +31,7 @@ fn tell_letters(alloc: Global, letters: &Letters) -> Result<String, NoMemory> {
     let mut out = String::new(alloc);
     out.push_str("asks")?;
     for told in letters.as_slice() {
-        let bookie = told.bookie;
+        let bookie = told.bookie.number();
         match &told.msg {
             Msg::AskLac { fence: false, .. } => write!(out, " {bookie}: count")?,
             Msg::AskEntry { entry, .. } => write!(out, " {bookie}: {entry}")?,

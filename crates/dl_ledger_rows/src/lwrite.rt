@@ -28,7 +28,7 @@ fn number_of(word: &str) -> u8 {
 
 /// Tells a letter with an entry: the bookie, the number of the entry, and the confirmed count that it carries.
 fn tell_letter(out: &mut String, told: &Told) -> Result<(), NoMemory> {
-    let bookie = told.bookie;
+    let bookie = told.bookie.number();
     if let Msg::Add { entry, count, .. } = &told.msg {
         write!(out, " {bookie}: {entry} {count}")?;
     }

@@ -243,7 +243,7 @@ fn tell_request(out: &mut String, request: &MetaOp) -> Result<(), NoMemory> {
 fn tell_letters(out: &mut String, letters: &Letters) -> Result<(), NoMemory> {
     out.push_str("tells")?;
     for told in letters.as_slice() {
-        let bookie = told.bookie;
+        let bookie = told.bookie.number();
         match &told.msg {
             Msg::AskLac { fence: false, .. } => write!(out, " {bookie}: count")?,
             Msg::AskEntry { entry, .. } => write!(out, " {bookie}: {entry}")?,

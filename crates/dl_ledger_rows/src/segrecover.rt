@@ -50,7 +50,7 @@ fn number_of(word: &str) -> u8 {
 fn tell_letters(out: &mut String, letters: &Letters) -> Result<(), NoMemory> {
     out.push_str("tells")?;
     for told in letters.as_slice() {
-        let bookie = told.bookie;
+        let bookie = told.bookie.number();
         match &told.msg {
             Msg::AskLac { fence: true, .. } => write!(out, " {bookie}: fence")?,
             Msg::AskEntry { entry, .. } => write!(out, " {bookie}: ask {entry}")?,

@@ -43,7 +43,7 @@ fn number_of(word: &str) -> u16 {
 
 fn tell_letters(out: &mut String, letters: &Letters) -> Result<(), NoMemory> {
     for told in letters.as_slice() {
-        let bookie = told.bookie;
+        let bookie = told.bookie.number();
         if let Msg::Add {
             entry,
             count,
