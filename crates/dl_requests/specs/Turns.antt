@@ -1,4 +1,5 @@
 -- What a task answers, by what its order does next.
+use Rattle.std.specs.Prelude.{◌≡◌}
 use Rattle.dl_msg.specs.declared.turn.Turn.{Turn}
 use Rattle.dl_msg.specs.declared.turn.Turn.TheVariants as turn
 use Rattle.dl_rules_stream.specs.Requests.{op_of}
@@ -13,6 +14,15 @@ turn_of (Ask request) = turn.Ask (op_of request)
 turn_of (Tell letters) = turn.Tell letters
 turn_of (Done result) = turn.Done result
 turn_of (Refused refusal) = turn.Refused refusal
+
+-- a turn is what the order does next; where the order is done, its value and that of the turn are related so
+abbrev pub IsTurn : {A B : Type 0} → (A → B → Type 0) → Next A → Turn B → Type 0
+IsTurn P Wait turn.Wait = Unit {0}
+IsTurn P (Ask request) (turn.Ask op) = op ≡ op_of request
+IsTurn P (Tell letters) (turn.Tell told) = told ≡ letters
+IsTurn P (Done a) (turn.Done b) = P a b
+IsTurn P (Refused r) (turn.Refused refusal) = refusal ≡ r
+IsTurn P next t = ⊥
 
 -- the same where the order is done with a value that this makes of its own
 abbrev pub next_by : {A B : Type 0} → (A → B) → Next A → Next B
