@@ -1,0 +1,6 @@
+pub mod Allocating
+pub mod Going
+pub mod LastVersions
+pub mod Lifting
+pub mod Logs
+pub mod Within

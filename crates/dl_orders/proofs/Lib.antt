@@ -1,7 +1,0 @@
-pub mod Allocating
-pub mod Failures
-pub mod Going
-pub mod LastVersions
-pub mod Lifting
-pub mod Logs
-pub mod Within

@@ -1,6 +1,0 @@
-pub mod Turns
-pub mod Looking
-pub mod Recovering
-pub mod Closing
-pub mod Seeking
-pub mod Opening
