@@ -1,5 +1,5 @@
 #!/usr/bin/env python3
-"""Prints crates/dl_items/src/tests/rows.rt: what a reading of the layout of items, written here apart from the crate,
+"""Prints crates/dl_byte_rows/src/items/rows.rt: what a reading of the layout of items, written here apart from the crate,
 finds in a body of ten items whose bytes are spoilt one by one."""
 
 from contextlib import redirect_stdout

@@ -1,5 +1,5 @@
 #!/usr/bin/env python3
-"""Prints crates/dl_msg/src/tests/rows.rt: messages of every kind, and what a reading of their layout, written here
+"""Prints crates/dl_byte_rows/src/messages/rows.rt: messages of every kind, and what a reading of their layout, written here
 apart from the crate, finds in other bytes."""
 
 ALNUM = b"abcdefghijklmnopqrstuvwxyzABCDEFGHIJKLMNOPQRSTUVWXYZ0123456789_-"

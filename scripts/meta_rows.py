@@ -1,8 +1,8 @@
 #!/usr/bin/env python3
 """Writes rows of the tests of crates/dl_meta, by a journal, a tree and sessions that are written here apart from the crates.
 
-usage: scripts/meta_rows.py spoilt > crates/dl_meta/src/tests/spoilt.rt
-       scripts/meta_rows.py requests > crates/dl_meta/src/tests/requests.rt
+usage: scripts/meta_rows.py spoilt > crates/dl_store_rows/src/meta/spoilt.rt
+       scripts/meta_rows.py requests > crates/dl_store_rows/src/meta/requests.rt
 
 `spoilt` is a file of ten items, and what a load finds in it where a byte is changed or the file is cut: the place of the fault, or a
 number that says what is loaded. `requests` are random requests of several sessions, and the replies.

@@ -1,5 +1,5 @@
 #!/usr/bin/env python3
-"""Prints crates/dl_record/src/tests/spoilt.rt: what a reading of the entry layout, written here apart from the
+"""Prints crates/dl_byte_rows/src/records/spoilt.rt: what a reading of the entry layout, written here apart from the
 crate, finds in an entry of three records whose bytes are spoilt one by one."""
 
 MOST_ENTRY, MOST_PAYLOAD = 1_048_576, 1_040_384

@@ -14,5 +14,3 @@ pub mod replies;
 pub mod row;
 mod settling;
 pub mod taken;
-#[cfg(test)]
-mod tests;

@@ -5,6 +5,4 @@
 pub mod laws;
 pub mod read;
 pub mod short;
-#[cfg(test)]
-mod tests;
 pub mod write;

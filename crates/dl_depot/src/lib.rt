@@ -12,5 +12,3 @@ pub mod logged_call;
 pub mod mem_file;
 pub mod memory;
 pub mod stopper;
-#[cfg(test)]
-mod tests;

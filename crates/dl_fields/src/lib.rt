@@ -13,6 +13,4 @@ pub mod path;
 pub mod run;
 pub mod size;
 pub mod stop;
-#[cfg(test)]
-mod tests;
 pub mod write;

@@ -16,5 +16,3 @@ mod node;
 pub mod paths;
 pub mod segment;
 pub mod segment_name;
-#[cfg(test)]
-mod tests;

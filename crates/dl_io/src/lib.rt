@@ -5,7 +5,5 @@
 pub mod memory;
 pub mod notes;
 pub mod standard;
-#[cfg(test)]
-mod tests;
 pub mod traits;
 pub mod whole;

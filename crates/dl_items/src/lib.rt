@@ -7,5 +7,3 @@ pub mod head;
 mod kind;
 pub mod put;
 pub mod read;
-#[cfg(test)]
-mod tests;

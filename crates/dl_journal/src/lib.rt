@@ -10,6 +10,4 @@ pub mod layout;
 pub mod load;
 pub mod load_fault;
 pub mod parse;
-#[cfg(test)]
-mod tests;
 pub mod write_through;

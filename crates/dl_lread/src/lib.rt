@@ -6,5 +6,3 @@ mod answers;
 pub mod got;
 pub mod reader;
 mod stage;
-#[cfg(test)]
-mod tests;

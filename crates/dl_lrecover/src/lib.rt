@@ -12,5 +12,3 @@ mod phase;
 pub mod recovery;
 mod stage;
 pub mod target;
-#[cfg(test)]
-mod tests;

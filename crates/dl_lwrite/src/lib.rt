@@ -6,6 +6,4 @@
 mod acknowledge;
 pub mod send_fault;
 mod sending;
-#[cfg(test)]
-mod tests;
 pub mod writer;

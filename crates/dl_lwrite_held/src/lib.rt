@@ -3,5 +3,3 @@
 #![tactic(auto)]
 
 pub mod holder;
-#[cfg(test)]
-mod tests;

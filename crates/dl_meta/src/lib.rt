@@ -11,5 +11,3 @@ pub mod meta_fault;
 mod read;
 mod replay;
 pub mod store;
-#[cfg(test)]
-mod tests;

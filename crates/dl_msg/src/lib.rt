@@ -14,6 +14,4 @@ pub mod meta_reply;
 pub mod msg;
 pub mod resource;
 pub mod size;
-#[cfg(test)]
-mod tests;
 pub mod turn;

@@ -6,7 +6,5 @@ pub mod parts;
 pub mod pool;
 pub mod pool_full;
 pub mod span;
-#[cfg(test)]
-mod tests;
 
 pub use pages::{PAGE, pages_of};

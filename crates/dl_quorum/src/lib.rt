@@ -5,5 +5,3 @@
 pub mod laws;
 pub mod place_set;
 pub mod placement;
-#[cfg(test)]
-mod tests;

@@ -15,6 +15,4 @@ mod segments;
 mod span;
 mod stage;
 mod step;
-#[cfg(test)]
-mod tests;
 mod walk;

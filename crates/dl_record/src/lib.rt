@@ -18,7 +18,5 @@ mod sets;
 pub mod shared_row;
 mod step;
 pub mod stored;
-#[cfg(test)]
-mod tests;
 pub mod user_row;
 pub mod walk;

@@ -7,5 +7,3 @@ mod entries;
 pub mod fault;
 mod ledgers;
 pub mod restore;
-#[cfg(test)]
-mod tests;

@@ -10,7 +10,5 @@ mod opening;
 pub mod parse;
 pub mod print;
 pub mod step;
-#[cfg(test)]
-mod tests;
 pub mod up_to;
 mod words;

@@ -9,6 +9,4 @@ mod given;
 mod last_entry;
 pub mod recovered;
 pub mod segment_recovery;
-mod stage;
-#[cfg(test)]
-mod tests;
+pub mod stage;

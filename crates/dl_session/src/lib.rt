@@ -4,5 +4,3 @@
 pub mod admit;
 pub mod laws;
 pub mod sessions;
-#[cfg(test)]
-mod tests;

@@ -11,6 +11,4 @@ pub mod payloads;
 pub mod place;
 pub mod refusal_word;
 pub mod stop;
-#[cfg(test)]
-mod tests;
 pub mod word;

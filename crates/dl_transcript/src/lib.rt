@@ -4,6 +4,4 @@
 pub mod event;
 pub mod laws;
 pub mod print;
-#[cfg(test)]
-mod tests;
 pub mod verb;

@@ -8,6 +8,4 @@ pub mod laws;
 mod op_kind;
 pub mod request;
 pub mod rule;
-#[cfg(test)]
-mod tests;
 mod version;

@@ -37,8 +37,6 @@ pub mod session;
 pub mod shared;
 pub mod start;
 pub mod status;
-#[cfg(test)]
-mod tests;
 pub mod txid;
 pub mod why;
 pub mod word;

@@ -11,8 +11,6 @@ mod refusing;
 mod sending;
 pub mod sent;
 mod taken;
-#[cfg(test)]
-mod tests;
 pub mod write_fault;
 pub mod writer;
 pub mod writer_state;
