@@ -1,11 +1,12 @@
 use crate::msg::Msg;
+use dl_types::bookie::BookieId;
 use dl_types::list::ListOf;
 
 /// A message for a bookie.
 #[derive(Clone, Debug, Drop)]
 pub struct Told {
     /// The bookie.
-    pub bookie: u8,
+    pub bookie: BookieId,
     /// The message.
     pub msg: Msg,
 }

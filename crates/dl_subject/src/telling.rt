@@ -1,4 +1,4 @@
-ghost use Rattle.std.specs.Prelude.{◌≡◌, IfOk};
+ghost use Rattle.std.specs.Prelude.{◌≡◌, ◌<◌, ◌+◌, ◌%◌, IfOk};
 ghost use Rattle.dl_quorum.specs.Sizes.{sizes_of};
 ghost use Rattle.dl_quorum.specs.Pieces.{one_piece, ensemble_members, members};
 ghost use Rattle.dl_rules_ledger.specs.Subjects.{tell_each};
@@ -7,6 +7,7 @@ ghost use Rattle.dl_subject.specs.Telling.{IsForBookies, letter};
 use dl_msg::letters::{Letters, Told};
 use dl_msg::msg::Msg;
 use dl_quorum::placement::write_place;
+use dl_types::bookie::BookieId;
 use dl_types::ensemble::Ensemble;
 use dl_types::memory::NoMemory;
 use dl_types::quorum::Quorum;
@@ -56,8 +57,16 @@ fn copy_of(msg: &Msg) -> Result<Msg, NoMemory>
     }
 }
 
+/// The bookie at this place of an ensemble, from 0.
+fn bookie_at(ensemble: &Ensemble, place: u8) -> BookieId
+    requires { place < ensemble.now.e }
+    ensures { result ≡ (ensemble.now.first + place) % ensemble.now.bookies }
+{
+    BookieId::new(ensemble.bookie(place))
+}
+
 /// A message for a bookie.
-fn tell(bookie: u8, msg: &Msg) -> Result<Told, NoMemory>
+fn tell(bookie: BookieId, msg: &Msg) -> Result<Told, NoMemory>
     requires { IsForBookies msg.now }
     ensures { IfOk result (λ told. told ≡ letter msg.now bookie) }
 {
@@ -81,7 +90,7 @@ pub fn tell_write_set(
 {
     let mut told = Vec::with_capacity(alloc, usize::from(q.qw))?;
     for i in 0..q.qw {
-        let bookie = ensemble.bookie(write_place(q, entry, i));
+        let bookie = bookie_at(ensemble, write_place(q, entry, i));
         told.push(tell(bookie, msg)?)?;
     }
     Ok(Letters::from_vec(told))
@@ -94,7 +103,7 @@ pub fn tell_ensemble(alloc: Global, ensemble: &Ensemble, msg: &Msg) -> Result<Le
 {
     let mut told = Vec::with_capacity(alloc, usize::from(ensemble.e))?;
     for place in 0..ensemble.e {
-        told.push(tell(ensemble.bookie(place), msg)?)?;
+        told.push(tell(bookie_at(ensemble, place), msg)?)?;
     }
     Ok(Letters::from_vec(told))
 }

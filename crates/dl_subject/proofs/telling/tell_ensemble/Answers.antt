@@ -8,7 +8,7 @@ pub loop-place-preserved : goal.loop-place-preserved
 loop-place-preserved c =
     c.in_ok-push.ensures.items ∙ ap (λ t. c.loop-place.told.items ++ t ∷ []) c.in_ok-tell.ensures
     ∙ ring_more c.args.ensemble.now.first c.args.ensemble.now.bookies c.loop-place.place _ c.args.msg.now c.loop-place.told.items
-    c.loop-place.invariant c.bookie.ensures
+    c.loop-place.invariant c.bookie_at.ensures
 
 pub returns : goal.returns
 returns c =

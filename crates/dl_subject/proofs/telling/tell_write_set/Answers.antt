@@ -8,7 +8,7 @@ loop-i-preserved c =
     c.in_ok-push.ensures.items ∙ ap (λ t. c.loop-i.told.items ++ t ∷ []) c.in_ok-tell.ensures
     ∙ letters_more (sizes_of c.args.q) c.args.ensemble.now c.args.entry c.args.msg.now c.loop-i.i _
     c.loop-i.told.items c.loop-i.invariant
-    (c.bookie-bookie.ensures ∙ ap (λ p. (c.args.ensemble.now.first + p) % c.args.ensemble.now.bookies) c.write_place.ensures.value)
+    (c.bookie_at-bookie.ensures ∙ ap (λ p. (c.args.ensemble.now.first + p) % c.args.ensemble.now.bookies) c.write_place.ensures.value)
     (omega (arith, c.write_place.ensures.value, c.write_place.ensures.bound, c.requires.ensemble))
 
 pub returns : goal.returns
