@@ -30,3 +30,7 @@ pub record StandsAt (x : AllocationArgs) (stage : AllocationStage) (f : Allocati
 -- a task stands for a view: each thing that it keeps is what the view says
 abbrev pub StandsFor : View AllocationArgs → AllocationFacts → Type 0
 StandsFor v f = StandsAt v.given (stage_by allocation_order v) f
+
+-- a task at another kept stage
+abbrev pub with_stage : AllocationFacts → Stage → AllocationFacts
+with_stage f stage = record { given = f.given; stage = stage }

@@ -3,9 +3,10 @@ ghost use Rattle.dl_formats.specs.NodeBytes.{IsConf};
 ghost use Rattle.dl_msg.specs.declared.heard.Heard.{Heard};
 ghost use Rattle.dl_rules_stream.specs.Allocations.{AllocationArgs, AllocationStage};
 ghost use Rattle.dl_rules_stream.specs.Allocations.{allocation_first, allocation_hears};
-ghost use Rattle.dl_requests.specs.Turns.{turn_of};
+ghost use Rattle.dl_requests.specs.Turns.{answer_of, move_of, turn_of};
 ghost use Rattle.dl_requests.specs.Tasks.{View, new_view, GoesBy, Hears};
-ghost use Rattle.dl_alloc.specs.Standing.{given_of, allocation_order, StandsAt, StandsFor};
+ghost use Rattle.dl_alloc.specs.Standing.{given_of, allocation_order, allocation_stage_of, with_stage};
+ghost use Rattle.dl_alloc.specs.Standing.{StandsAt, StandsFor};
 
 use crate::answers::after_answer;
 use crate::given::Given;
@@ -13,7 +14,7 @@ use crate::stage::Stage;
 use dl_formats::conf::Conf;
 use dl_msg::heard::Heard;
 use dl_msg::turn::Turn;
-use dl_requests::moves::Move;
+use dl_requests::moves::{Move, take};
 use dl_types::memory::NoMemory;
 use dl_types::name::Name;
 use dl_types::path::Path;
@@ -72,6 +73,25 @@ impl Allocation {
         Ok((task, Turn::Ask(request)))
     }
 
+    /// Where it goes at what it hears, as `hear` does; nothing changes.
+    pub fn step(&self, heard: &Heard) -> Result<Move<Stage, u64>, NoMemory>
+        ensures { IfOk result (λ step. (x : AllocationArgs) (stage : AllocationStage)
+            → StandsAt x stage self.now → move_of allocation_stage_of stage step
+            ≡ answer_of (allocation_hears x stage heard.now)) }
+    {
+        match heard {
+            Heard::Reply(answer) => after_answer(self.alloc, &self.given, &self.stage, answer),
+            Heard::From(..) => Ok(Move::Stays),
+        }
+    }
+
+    /// Goes to this stage, which `step` told.
+    pub fn go(&mut self, stage: Stage)
+        ensures { self.new ≡ with_stage self.old stage }
+    {
+        self.stage = stage;
+    }
+
     /// Hears the reply to its request, and answers with its next turn. It is done with the number of the new ledger, once the
     /// stream's node `alloc` names it and the one that it named before is deleted. Where a request fails, the node has moved on
     /// or the task gives up at its path. Replies that aren't to its request, and messages of bookies, change nothing. Want of
@@ -85,15 +105,7 @@ impl Allocation {
             → Hears allocation_order StandsFor v heard.now turn self.new) }
         ensures kept { OnErr result (self.new ≡ self.old) }
     {
-        let Heard::Reply(answer) = heard else {
-            return Ok(Turn::Wait);
-        };
-        match after_answer(self.alloc, &self.given, &self.stage, answer)? {
-            Move::Stays => Ok(Turn::Wait),
-            Move::Goes(stage, turn) => {
-                self.stage = stage;
-                Ok(turn)
-            }
-        }
+        let step = self.step(heard)?;
+        Ok(take(&mut self.stage, step))
     }
 }

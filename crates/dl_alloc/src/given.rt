@@ -1,17 +1,14 @@
 ghost use Rattle.std.specs.Prelude.{◌≡◌, IfOk};
-ghost use Rattle.dl_quorum.specs.Sizes.{sizes_of};
-ghost use Rattle.dl_formats.specs.NodeBytes.{IsConf};
 ghost use Rattle.dl_rules_stream.specs.Allocations.{takes};
 ghost use Rattle.dl_rules_stream.specs.Nodes.{new_sizes};
 ghost use Rattle.dl_rules_stream.specs.Requests.{MakeLedger, op_of};
 
 use dl_formats::conf::Conf;
-use dl_requests::ledgers::{make_ledger, take_ledger};
+use dl_requests::ledgers::{make_ledger, quorum_of, take_ledger};
 use dl_types::memory::NoMemory;
 use dl_types::meta_op::MetaOp;
 use dl_types::name::Name;
 use dl_types::path::Path;
-use dl_types::quorum::Quorum;
 use std::alloc::Global;
 use std::marker::Model;
 
@@ -41,15 +38,6 @@ impl Model for Given {
     } };
 
     ghost invariant = { λ g. IsConf g.conf };
-}
-
-/// The quorum of new ledgers.
-fn quorum_of(conf: Conf) -> Quorum
-    requires { IsConf conf }
-    ensures { sizes_of result ≡ new_sizes conf }
-{
-    let Conf { e, qw, qa, .. } = conf;
-    Quorum { e, qw, qa }
 }
 
 impl Given {

@@ -6,4 +6,4 @@
 pub mod allocation;
 mod answers;
 mod given;
-mod stage;
+pub mod stage;

@@ -1,6 +1,6 @@
 /// Which request the task waits for, and what it keeps for the ones behind it.
 #[derive(Debug, Drop)]
-pub(crate) enum Stage {
+pub enum Stage {
     /// That which makes a ledger.
     Making,
     /// That which names the new ledger, this one, in the stream's node `alloc`.

@@ -25,3 +25,7 @@ pub record StandsAt (s : List ℕ) (stage : LockStage) (f : LockFacts) : Type 0 
 -- a task stands for a view: each thing that it keeps is what the view says
 abbrev pub StandsFor : View (List ℕ) → LockFacts → Type 0
 StandsFor v f = StandsAt v.given (stage_by lock_order v) f
+
+-- a task at another kept stage
+abbrev pub with_stage : LockFacts → Stage → LockFacts
+with_stage f stage = record { stream = f.stream; stage = stage }

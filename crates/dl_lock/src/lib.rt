@@ -6,4 +6,4 @@
 mod answers;
 pub mod lock;
 mod names;
-mod stage;
+pub mod stage;

@@ -2,15 +2,15 @@ ghost use Rattle.std.specs.Prelude.{◌≡◌, ℕ, List, IfOk, OnErr};
 ghost use Rattle.dl_msg.specs.declared.heard.Heard.{Heard};
 ghost use Rattle.dl_rules_stream.specs.Locks.{LockStage, lock_first, lock_hears};
 ghost use Rattle.dl_requests.specs.Tasks.{View, new_view, GoesBy, Hears};
-ghost use Rattle.dl_requests.specs.Turns.{turn_of};
-ghost use Rattle.dl_lock.specs.Standing.{lock_order, StandsAt, StandsFor};
+ghost use Rattle.dl_requests.specs.Turns.{answer_of, move_of, turn_of};
+ghost use Rattle.dl_lock.specs.Standing.{lock_order, lock_stage_of, with_stage, StandsAt, StandsFor};
 
 use crate::answers::after_answer;
 use crate::stage::Stage;
 use dl_msg::heard::Heard;
 use dl_msg::turn::Turn;
 use dl_requests::members::make_member;
-use dl_requests::moves::Move;
+use dl_requests::moves::{Move, take};
 use dl_types::memory::NoMemory;
 use dl_types::name::Name;
 use dl_types::path::Path;
@@ -51,6 +51,25 @@ impl Lock {
         Ok((task, Turn::Ask(request)))
     }
 
+    /// Where it goes at what it hears, as `hear` does; nothing changes.
+    pub fn step(&self, heard: &Heard) -> Result<Move<Stage, Path>, NoMemory>
+        ensures { IfOk result (λ step. (stream : List ℕ) (stage : LockStage)
+            → StandsAt stream stage self.now
+            → move_of lock_stage_of stage step ≡ answer_of (lock_hears stream stage heard.now)) }
+    {
+        match heard {
+            Heard::Reply(answer) => after_answer(self.alloc, &self.stream, &self.stage, answer),
+            Heard::From(..) => Ok(Move::Stays),
+        }
+    }
+
+    /// Goes to this stage, which `step` told.
+    pub fn go(&mut self, stage: Stage)
+        ensures { self.new ≡ with_stage self.old stage }
+    {
+        self.stage = stage;
+    }
+
     /// Hears the reply to its request, and answers with its next turn. It is done with the path of its member where no other
     /// one has a lesser number; else it deletes its member, and is refused: `Held` names the least one. A stream that isn't
     /// there is `NoStream`; where a request fails otherwise, the node has moved on or the task gives up at its path. Messages of
@@ -64,15 +83,7 @@ impl Lock {
             → Hears lock_order StandsFor v heard.now turn self.new) }
         ensures kept { OnErr result (self.new ≡ self.old) }
     {
-        let Heard::Reply(answer) = heard else {
-            return Ok(Turn::Wait);
-        };
-        match after_answer(self.alloc, &self.stream, &self.stage, answer)? {
-            Move::Stays => Ok(Turn::Wait),
-            Move::Goes(stage, turn) => {
-                self.stage = stage;
-                Ok(turn)
-            }
-        }
+        let step = self.step(heard)?;
+        Ok(take(&mut self.stage, step))
     }
 }

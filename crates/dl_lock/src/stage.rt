@@ -2,7 +2,7 @@ use dl_types::path::Path;
 
 /// Which request the task waits for, and what it keeps for the ones behind it.
 #[derive(Debug, Drop)]
-pub(crate) enum Stage {
+pub enum Stage {
     /// That which makes its member.
     Making,
     /// That which lists the members; its own has this path.

@@ -9,7 +9,7 @@ use crate::make_answers::after_answer;
 use crate::make_stage::MakeStage;
 use dl_msg::heard::Heard;
 use dl_msg::turn::Turn;
-use dl_requests::moves::Move;
+use dl_requests::moves::take;
 use dl_requests::streams::make_stream;
 use dl_types::memory::NoMemory;
 use dl_types::name::Name;
@@ -66,12 +66,7 @@ impl Make {
         let Heard::Reply(answer) = heard else {
             return Ok(Turn::Wait);
         };
-        match after_answer(self.alloc, &self.stream, &self.stage, answer)? {
-            Move::Stays => Ok(Turn::Wait),
-            Move::Goes(stage, turn) => {
-                self.stage = stage;
-                Ok(turn)
-            }
-        }
+        let step = after_answer(self.alloc, &self.stream, &self.stage, answer)?;
+        Ok(take(&mut self.stage, step))
     }
 }

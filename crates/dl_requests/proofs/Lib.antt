@@ -1,3 +1,4 @@
+pub mod FailureLemmas
 pub mod ListingLemmas
 pub mod LedgerNodeLemmas
 pub mod NumberLemmas

@@ -3,7 +3,7 @@ use Rattle.std.specs.Prelude.{◌≡◌, List, [], ◌∷◌}
 use Rattle.dl_msg.specs.declared.heard.Heard.{Heard}
 use Rattle.dl_msg.specs.declared.turn.Turn.{Turn}
 use Rattle.dl_rules_stream.specs.Orders.{Next, stage_after}
-use Rattle.dl_requests.specs.Turns.{turn_of, next_by}
+use Rattle.dl_requests.specs.Turns.{turn_of, next_by, IsTurn}
 
 -- What an order is given, and what was heard, the newest first.
 pub record View (X : Type 0) : Type 0 where
@@ -41,4 +41,15 @@ pub record Hears {X R A F : Type 0} (o : Order X R A) (For : View X → F → Ty
 pub record HearsBy {X R A B F : Type 0} (result : A → B) (o : Order X R A) (For : View X → F → Type 0) (v : View X) (h : Heard) (t : Turn B) (f : F)
     : Type 0 where
   pub turn : t ≡ turn_of (next_by result (o.hears v.given (stage_by o v) h).1)
+  pub stands : For (with_heard v h) f
+
+-- A task goes on as the rule does, where what it is done with is related so to the rule's value: it stands then at this stage.
+pub record GoesTo {R A B F : Type 0} (P : A → B → Type 0) (At : R → F → Type 0) (move : R × Next A) (t : Turn B) (f : F) : Type 0 where
+  pub turn : IsTurn P move.1 t
+  pub stands : At move.0 f
+
+-- The same of a task that answers by what its view says.
+pub record HearsTo {X R A B F : Type 0} (P : A → B → Type 0) (o : Order X R A) (For : View X → F → Type 0) (v : View X) (h : Heard) (t : Turn B) (f : F)
+    : Type 0 where
+  pub turn : IsTurn P (o.hears v.given (stage_by o v) h).1 t
   pub stands : For (with_heard v h) f

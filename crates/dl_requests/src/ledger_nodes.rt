@@ -5,7 +5,7 @@ ghost use Rattle.dl_types.specs.declared.one_op.OneOp.TheVariants.{Set};
 ghost use Rattle.dl_types.specs.declared.meta_op.MetaOp.TheVariants as op;
 ghost use Rattle.dl_quorum.specs.Sizes.{sizes_of};
 ghost use Rattle.dl_formats.specs.Keys.{Ledger, path_of};
-ghost use Rattle.dl_formats.specs.NodeBytes.{IsLedgerMeta, ledger_bytes, ten_nines};
+ghost use Rattle.dl_formats.specs.NodeBytes.{ledger_bytes};
 ghost use Rattle.dl_rules_stream.specs.Requests.{GetLedger, MarkLedger, CloseLedger, op_of};
 ghost use Rattle.dl_rules_stream.specs.Listings.{ledger_node_of};
 ghost use Rattle.dl_requests.specs.LedgerNodes.{node_or_gave_up};
@@ -38,8 +38,6 @@ fn set_ledger(
     meta: &LedgerMeta,
     version: u64,
 ) -> Result<MetaOp, NoMemory>
-    requires ledger { ledger ≤ ten_nines }
-    requires valid { IsLedgerMeta meta.now }
     ensures { IfOk result (λ x. x
         ≡ op.One (Set (path_of (Ledger ledger)) (ledger_bytes meta.now) (Some version))) }
 {
@@ -50,7 +48,6 @@ fn set_ledger(
 /// The request that marks the node of a ledger of this version: the ledger is being recovered.
 #[tactic(auto, unfolding(dl_rules_stream::specs::Requests::op_of))]
 pub fn mark_ledger(alloc: Global, ledger: u64, q: Quorum, version: u64) -> Result<MetaOp, NoMemory>
-    requires { ledger ≤ ten_nines }
     ensures { IfOk result (λ op. op ≡ op_of (MarkLedger ledger (sizes_of q) version)) }
 {
     let meta = LedgerMeta {
@@ -70,7 +67,6 @@ pub fn close_ledger(
     count: u64,
     version: u64,
 ) -> Result<MetaOp, NoMemory>
-    requires { ledger ≤ ten_nines }
     ensures { IfOk result (λ op. op ≡ op_of (CloseLedger ledger (sizes_of q) count version)) }
 {
     let meta = LedgerMeta {

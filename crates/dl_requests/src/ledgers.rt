@@ -2,10 +2,13 @@
 
 ghost use Rattle.std.specs.Prelude.{◌≡◌, ℕ, IfOk, IfSome, Option};
 ghost use Rattle.dl_quorum.specs.Sizes.{sizes_of};
+ghost use Rattle.dl_formats.specs.NodeBytes.{IsConf};
+ghost use Rattle.dl_rules_stream.specs.Nodes.{new_sizes};
 ghost use Rattle.dl_rules_stream.specs.Requests.{MakeLedger, TakeLedger, op_of};
 
 use crate::build::{create, multi, set};
 use dl_formats::allocation::Alloc;
+use dl_formats::conf::Conf;
 use dl_formats::encode::{encode_alloc, encode_ledger};
 use dl_formats::ledger::{LedgerMeta, LedgerState};
 use dl_formats::paths::{alloc_path, ledger_path, ledger_stem};
@@ -17,6 +20,15 @@ use dl_types::one_op::OneOp;
 use dl_types::path::Path;
 use dl_types::quorum::Quorum;
 use std::alloc::Global;
+
+/// The quorum of new ledgers of this configuration.
+pub fn quorum_of(conf: Conf) -> Quorum
+    requires { IsConf conf }
+    ensures { sizes_of result ≡ new_sizes conf }
+{
+    let Conf { e, qw, qa, .. } = conf;
+    Quorum { e, qw, qa }
+}
 
 /// The request that makes a ledger of this quorum, to be written, with the next number.
 #[tactic(auto, unfolding(dl_rules_stream::specs::Requests::op_of))]

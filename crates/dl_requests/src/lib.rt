@@ -2,11 +2,13 @@
 //! answer that failed means for an order.
 #![tactic(auto)]
 
+pub mod beginnings;
 mod build;
 pub mod cuts;
 pub mod ledger_nodes;
 pub mod ledgers;
 pub mod listing;
+pub mod looks;
 pub mod members;
 pub mod moves;
 pub mod nodes;

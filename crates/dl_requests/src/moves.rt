@@ -2,7 +2,7 @@ ghost use Rattle.std.specs.Prelude.{◌≡◌, IfOk};
 ghost use Rattle.dl_msg.specs.declared.turn.Turn.TheVariants as turn;
 ghost use Rattle.dl_rules_stream.specs.Requests.{Request, op_of};
 ghost use Rattle.dl_rules_stream.specs.Orders.{no_way_on, tells};
-ghost use Rattle.dl_requests.specs.Turns.{turn_of};
+ghost use Rattle.dl_requests.specs.Turns.{turn_of, stage_behind, turn_in};
 ghost use Rattle.dl_requests.specs.declared.moves.Move.TheVariants.{Goes};
 
 use crate::refusals::no_way_on;
@@ -21,6 +21,20 @@ pub enum Move<S, A> {
     Stays,
     /// It goes to this stage, and answers with this turn.
     Goes(S, Turn<A>),
+}
+
+/// A task takes a move: it is at the stage behind it from now on, and answers with its turn.
+pub fn take<S: Drop, A>(stage: &mut S, step: Move<S, A>) -> Turn<A>
+    ensures stage { stage.new ≡ stage_behind stage.old step }
+    ensures turn { result ≡ turn_in step }
+{
+    match step {
+        Move::Stays => Turn::Wait,
+        Move::Goes(next, turn) => {
+            *stage = next;
+            turn
+        }
+    }
 }
 
 /// The task asks for a request, and waits at this stage for its answer.

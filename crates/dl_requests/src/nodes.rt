@@ -3,15 +3,16 @@
 
 ghost use Rattle.std.specs.Prelude.{◌≡◌, ◌≤◌, IfOk};
 ghost use Rattle.dl_formats.specs.NodeBytes.{IsMaxSeq, IsSegmentMeta, ten_nines};
-ghost use Rattle.dl_formats.specs.Reading.{cut_at, maxseq_at, segment_at};
-ghost use Rattle.dl_rules_stream.specs.Listings.{point_of, maxseq_of, segment_of, is_named, ledger_of};
+ghost use Rattle.dl_formats.specs.Reading.{alloc_at, cut_at, maxseq_at, segment_at};
+ghost use Rattle.dl_rules_stream.specs.Listings.{alloc_of, point_of, maxseq_of, segment_of, is_named, ledger_of};
 
 use crate::segments::segment_path;
+use dl_formats::allocation::Alloc;
 use dl_formats::cut::Cut;
-use dl_formats::decode::{decode_cut, decode_maxseq, decode_segment};
+use dl_formats::decode::{decode_alloc, decode_cut, decode_maxseq, decode_segment};
 use dl_formats::fault::MetaBytesFault;
 use dl_formats::maxseq::MaxSeq;
-use dl_formats::paths::{cut_path, maxseq_path};
+use dl_formats::paths::{alloc_path, cut_path, maxseq_path};
 use dl_formats::segment::SegmentMeta;
 use dl_formats::segment_name::SegmentName;
 use dl_types::dlsn::Dlsn;
@@ -19,6 +20,13 @@ use dl_types::memory::NoMemory;
 use dl_types::name::Name;
 use dl_types::refusal::Refusal;
 use std::alloc::Global;
+
+/// What the bytes of a node `alloc` spell.
+fn alloc_at(bytes: &[u8]) -> Result<Alloc, MetaBytesFault>
+    ensures { result ≡ alloc_at bytes.now }
+{
+    decode_alloc(bytes)
+}
 
 /// What the bytes of a node `cut` spell.
 fn cut_at(bytes: &[u8]) -> Result<Cut, MetaBytesFault>
@@ -41,6 +49,24 @@ fn segment_at(bytes: &[u8]) -> Result<SegmentMeta, MetaBytesFault>
     ensures valid { IfOk result IsSegmentMeta }
 {
     decode_segment(bytes)
+}
+
+/// The ledger that the bytes of a stream's node `alloc` name, where they name one, or the refusal by which an order gives up
+/// there.
+pub fn alloc_of(
+    alloc: Global,
+    stream: &Name,
+    bytes: &[u8],
+) -> Result<Result<Option<u64>, Refusal>, NoMemory>
+    ensures { IfOk result (λ read. read ≡ alloc_of stream.now bytes.now) }
+{
+    match alloc_at(bytes) {
+        Ok(node) => Ok(Ok(node.ledger)),
+        Err(_) => {
+            let path = alloc_path(alloc, stream)?;
+            Ok(Err(Refusal::GaveUp { path }))
+        }
+    }
 }
 
 /// The point that the bytes of a stream's node `cut` name, or the refusal by which an order gives up there.

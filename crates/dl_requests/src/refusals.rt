@@ -1,8 +1,9 @@
-//! What a failed operation means for an order that has no way on from it.
+//! What a failed operation means for an order.
 
 ghost use Rattle.std.specs.Prelude.{◌≡◌, ℕ, IfOk};
 ghost use Rattle.dl_rules_stream.specs.Requests.{Request, op_of, path_in, path_nth, path_at};
 ghost use Rattle.dl_rules_stream.specs.Orders.{no_way_on};
+ghost use Rattle.dl_requests.specs.Failures.{is_missing};
 
 use dl_types::memory::NoMemory;
 use dl_types::meta_op::MetaOp;
@@ -11,6 +12,17 @@ use dl_types::path::Path;
 use dl_types::refusal::Refusal;
 use dl_types::why::Why;
 use std::alloc::Global;
+
+/// Whether the failure of an operation at this place says that the node of the first one isn't there.
+#[tactic(auto, using(crate::proofs::FailureLemmas::not_missing, crate::proofs::FailureLemmas::missing_behind))]
+pub fn is_missing(place: u16, why: Why) -> bool
+    ensures { result ≡ is_missing place why }
+{
+    match why {
+        Why::NoNode => place == 0,
+        _ => false,
+    }
+}
 
 /// The path that an operation names.
 fn path_in(op: &OneOp) -> &Path

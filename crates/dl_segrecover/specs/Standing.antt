@@ -2,17 +2,14 @@
 use Rattle.std.specs.Prelude.{◌≡◌, ℕ, List, Option}
 use Rattle.dl_formats.specs.declared.conf.Conf.{Conf}
 use Rattle.dl_formats.specs.declared.maxseq.MaxSeq.{MaxSeq}
-use Rattle.dl_msg.specs.declared.turn.Turn.{Turn}
-use Rattle.dl_msg.specs.declared.turn.Turn.TheVariants as turn
 use Rattle.dl_rules_ledger.specs.Readers.{ReaderStage}
 use Rattle.dl_rules_stream.specs.Nodes.{LedgerNode}
 use Rattle.dl_rules_stream.specs.Orders.{Next}
 use Rattle.dl_rules_stream.specs.SegmentRecoveries as rule
 use Rattle.dl_requests.specs.Completions.{completion_by}
 use Rattle.dl_requests.specs.Tasks.{View, Order, stage_by}
-use Rattle.dl_requests.specs.Turns.{turn_of, next_by}
+use Rattle.dl_requests.specs.Turns.{turn_of, next_by, stage_behind, turn_in}
 use Rattle.dl_requests.specs.declared.moves.Move.{Move}
-use Rattle.dl_requests.specs.declared.moves.Move.TheVariants.{Stays, Goes}
 use Rattle.dl_lread.specs.Facts.{ReaderFacts}
 use Rattle.dl_lread.specs.Standing as reading
 use Rattle.dl_lrecover.specs.Facts.{RecoveryFacts}
@@ -78,17 +75,11 @@ pub record StandsAt (x : rule.SegmentArgs) (stage : rule.SegmentStage) (f : Segm
 abbrev pub StandsFor : View rule.SegmentArgs → SegmentFacts → Type 0
 StandsFor v f = StandsAt v.given (stage_by segment_order v) f
 
+-- a task at another kept stage
+abbrev pub with_stage : SegmentFacts → Stage → SegmentFacts
+with_stage f stage = record { given = f.given; stage = stage }
+
 -- ---- moves
-
--- the kept stage behind a move
-abbrev pub stage_behind : Stage → Move Stage Recovered → Stage
-stage_behind stage Stays = stage
-stage_behind stage (Goes next t) = next
-
--- the turn of a move
-abbrev pub turn_in : Move Stage Recovered → Turn Recovered
-turn_in Stays = turn.Wait
-turn_in (Goes next t) = t
 
 -- a move from a kept stage goes where the order goes
 pub record IsMove (x : rule.SegmentArgs) (from : Stage) (to : rule.SegmentStage × Next rule.Recovered) (move : Move Stage Recovered) : Type 0 where

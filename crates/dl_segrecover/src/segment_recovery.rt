@@ -4,7 +4,8 @@ ghost use Rattle.dl_formats.specs.NodeBytes.{IsConf};
 ghost use Rattle.dl_rules_stream.specs.SegmentRecoveries.{SegmentArgs, SegmentStage, segment_first, segment_hears};
 ghost use Rattle.dl_requests.specs.Turns.{turn_of, next_by, goes_by};
 ghost use Rattle.dl_requests.specs.Tasks.{View, new_view, GoesBy, HearsBy};
-ghost use Rattle.dl_segrecover.specs.Standing.{given_of, recovered_of, segment_order, StandsAt, StandsFor};
+ghost use Rattle.dl_segrecover.specs.Standing.{given_of, recovered_of, segment_order, with_stage};
+ghost use Rattle.dl_segrecover.specs.Standing.{IsMove, StandsAt, StandsFor};
 
 use crate::answers::after_heard;
 use crate::given::Given;
@@ -14,7 +15,7 @@ use dl_formats::conf::Conf;
 use dl_formats::maxseq::MaxSeq;
 use dl_msg::heard::Heard;
 use dl_msg::turn::Turn;
-use dl_requests::moves::Move;
+use dl_requests::moves::{Move, take};
 use dl_types::memory::NoMemory;
 use dl_types::name::Name;
 use dl_types::path::Path;
@@ -88,6 +89,22 @@ impl SegmentRecovery {
         Ok((task, Turn::Ask(request)))
     }
 
+    /// Where it goes at what it hears, as `hear` does; nothing changes.
+    pub fn step(&self, heard: &Heard) -> Result<Move<Stage, Recovered>, NoMemory>
+        ensures { IfOk result (λ step. (x : SegmentArgs) (stage : SegmentStage)
+            → StandsAt x stage self.now
+            → IsMove x self.now.stage (segment_hears x stage heard.now) step) }
+    {
+        after_heard(self.alloc, &self.given, &self.stage, heard)
+    }
+
+    /// Goes to this stage, which `step` told.
+    pub fn go(&mut self, stage: Stage)
+        ensures { self.new ≡ with_stage self.old stage }
+    {
+        self.stage = stage;
+    }
+
     /// Hears a reply to its request or a message of a bookie, and answers with its next turn. It is done with the count of the
     /// segment's entries once the segment is complete, also where another client has completed it after this one had closed
     /// the ledger; or with `Again` where the segment in progress is gone before. It is refused as `GaveUp` where the ledger that
@@ -104,12 +121,7 @@ impl SegmentRecovery {
             → HearsBy recovered_of segment_order StandsFor v heard.now turn self.new) }
         ensures kept { OnErr result (self.new ≡ self.old) }
     {
-        match after_heard(self.alloc, &self.given, &self.stage, heard)? {
-            Move::Stays => Ok(Turn::Wait),
-            Move::Goes(stage, turn) => {
-                self.stage = stage;
-                Ok(turn)
-            }
-        }
+        let step = self.step(heard)?;
+        Ok(take(&mut self.stage, step))
     }
 }

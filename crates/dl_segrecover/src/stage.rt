@@ -4,7 +4,7 @@ use dl_requests::segment_end::SegmentEnd;
 
 /// What the task waits for, and what it keeps for what comes behind it.
 #[derive(Drop)]
-pub(crate) enum Stage {
+pub enum Stage {
     /// For the segment's node.
     GettingSegment,
     /// For the recovery of the segment's ledger.

@@ -10,7 +10,7 @@ use crate::truncate_stage::TruncateStage;
 use dl_msg::heard::Heard;
 use dl_msg::turn::Turn;
 use dl_requests::cuts::look_cut;
-use dl_requests::moves::Move;
+use dl_requests::moves::take;
 use dl_types::dlsn::Dlsn;
 use dl_types::memory::NoMemory;
 use dl_types::name::Name;
@@ -80,12 +80,7 @@ impl Truncate {
         let Heard::Reply(answer) = heard else {
             return Ok(Turn::Wait);
         };
-        match after_answer(self.alloc, &self.stream, self.place, &self.stage, answer)? {
-            Move::Stays => Ok(Turn::Wait),
-            Move::Goes(stage, turn) => {
-                self.stage = stage;
-                Ok(turn)
-            }
-        }
+        let step = after_answer(self.alloc, &self.stream, self.place, &self.stage, answer)?;
+        Ok(take(&mut self.stage, step))
     }
 }
