@@ -1,0 +1,5 @@
+pub mod Turns
+pub mod Facts
+pub mod Standing
+pub mod Hearing
+pub mod Moves
