@@ -1,0 +1,11 @@
+pub mod WaitingLemmas
+pub mod FileLemmas
+pub mod TableLemmas
+pub mod PutLemmas
+pub mod FirstLemmas
+pub mod PlaceLemmas
+pub mod NextLemmas
+pub mod KeptLemmas
+pub mod StandLemmas
+pub mod MailLemmas
+pub mod OrderLemmas
