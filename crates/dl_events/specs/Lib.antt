@@ -1,0 +1,3 @@
+pub mod TxidWords
+pub mod Faults
+pub mod Laws
