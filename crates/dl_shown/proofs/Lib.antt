@@ -1,0 +1,4 @@
+mod Judging
+mod RowLemmas
+mod RecordLemmas
+mod GrowLemmas
