@@ -5,7 +5,7 @@ scratch=$(mktemp -d)
 trap 'rm -rf "$scratch"' EXIT
 
 # scratch_with PROGRAM "DEPS OF THE PROGRAM" CRATE..: makes a repository in $scratch with these crates of this one, and a
-# program that has no sources yet, in $bench.
+# program that has no sources yet, in $bench. A crate that was built here comes with its library, so that it isn't proved once more.
 scratch_with() {
     program=$1
     deps=$2
@@ -13,6 +13,10 @@ scratch_with() {
     for crate in "$@"; do
         mkdir -p "$scratch/crates/$crate"
         for part in src specs proofs; do cp -r "$top/crates/$crate/$part" "$scratch/crates/$crate/"; done
+        if [ -d "$top/crates/$crate/out/rlib" ]; then
+            mkdir "$scratch/crates/$crate/out"
+            cp -r "$top/crates/$crate/out/rlib" "$scratch/crates/$crate/out/"
+        fi
         grep "^$crate:" "$top/crates.txt" >> "$scratch/crates.txt"
     done
     cp "$top/HANDLES" "$scratch/"
