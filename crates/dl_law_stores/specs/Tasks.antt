@@ -31,23 +31,23 @@ NextHolds shape k (Refused r) = Unit {0}
 
 -- what it knows at a stage; a count at which it closes is its end
 abbrev pub StageHolds : Shapes → Nodes → ℕ → RecoveryStage → Type 0
-StageHolds shape k l (GettingNode node) = Unit {0}
-StageHolds shape k l (Marking node version) = Unit {0}
-StageHolds shape k l (Searching node version phase) = PhaseHolds shape k l phase
-StageHolds shape k l (Closing node version count) = EndsAt shape k l count
-StageHolds shape k l (IsClosed node) = Unit {0}
-StageHolds shape k l (IsGone node) = Unit {0}
-StageHolds shape k l (WasRefused node) = Unit {0}
+StageHolds shape k l (GettingNode found) = Unit {0}
+StageHolds shape k l (Marking found version) = Unit {0}
+StageHolds shape k l (Searching found version phase) = PhaseHolds shape k l phase
+StageHolds shape k l (Closing found version count) = EndsAt shape k l count
+StageHolds shape k l (IsClosed found) = Unit {0}
+StageHolds shape k l (IsGone found) = Unit {0}
+StageHolds shape k l (WasRefused found) = Unit {0}
 
 -- the pieces that it reads from the ledger's node are the ledger's own, where it asks bookies by them
 abbrev pub KnowsPieces : Shapes → RecoveryArgs → RecoveryStage → Type 0
-KnowsPieces shape x (GettingNode node) = Unit {0}
-KnowsPieces shape x (Marking node version) = Unit {0}
-KnowsPieces shape x (Searching node version phase) = (subject_of x node).pieces ≡ shape x.ledger
-KnowsPieces shape x (Closing node version count) = Unit {0}
-KnowsPieces shape x (IsClosed node) = Unit {0}
-KnowsPieces shape x (IsGone node) = Unit {0}
-KnowsPieces shape x (WasRefused node) = Unit {0}
+KnowsPieces shape x (GettingNode found) = Unit {0}
+KnowsPieces shape x (Marking found version) = Unit {0}
+KnowsPieces shape x (Searching found version phase) = (subject_of x found).pieces ≡ shape x.ledger
+KnowsPieces shape x (Closing found version count) = Unit {0}
+KnowsPieces shape x (IsClosed found) = Unit {0}
+KnowsPieces shape x (IsGone found) = Unit {0}
+KnowsPieces shape x (WasRefused found) = Unit {0}
 
 -- A stage that it has come to, and what it does next.
 pub record StageGoesOn (shape : Shapes) (k : Nodes) (l : ℕ) (move : RecoveryStage × Next ℕ) : Type 0 where
